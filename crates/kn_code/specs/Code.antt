@@ -1,0 +1,48 @@
+-- What a program is, without where it lies in memory.
+use Rattle.std.specs.Prelude.{◌≡◌, ℕ, ◌+◌, ◌<◌, ◌≤◌, ◌^◌, List, [], ◌∷◌, length, Option, IfSome}
+use Rattle.kn_code.specs.declared.program.Instr.{Instr}
+use Rattle.kn_code.specs.declared.program.Instr.TheVariants.{Const, Brz, Input, Assert, Ret, Halt}
+
+-- Its instructions, and where its ten handlers begin (boot, recv, timer 0 to timer 7).
+pub record Code : Type 0 where
+  pub instrs : List Instr
+  pub handlers : List (Option ℕ)
+
+abbrev pub no_code : Code
+no_code = record { instrs = []; handlers = [] }
+
+-- The fields of an instruction among so many are in range. A row that is not built yet is no instruction of a program.
+abbrev pub IsInstr : ℕ → Instr → Type 0
+IsInstr count (Const a n) = (a < 16) × (n < 2 ^ 16)
+IsInstr count (Brz a to) = (a < 16) × (to < count)
+IsInstr count (Input a w) = (a < 16) × (w ≡ 1)
+IsInstr count (Assert a) = a < 16
+IsInstr count Ret = Unit {0}
+IsInstr count Halt = Unit {0}
+IsInstr count other = ⊥
+
+-- it may stand last
+abbrev pub Ends : Instr → Type 0
+Ends Ret = Unit {0}
+Ends Halt = Unit {0}
+Ends other = ⊥
+
+-- a fact of each element and how many come after it
+abbrev pub AllWithLeft : {X : Type 0} → (ℕ → X → Type 0) → List X → Type 0
+AllWithLeft P [] = Unit {0}
+AllWithLeft P (x ∷ xs) = P (length xs) x × AllWithLeft P xs
+
+-- an instruction is in range, and the last one ends
+abbrev pub Stands : ℕ → ℕ → Instr → Type 0
+Stands count left i = IsInstr count i × (left ≡ 0 → Ends i)
+
+-- a handler's entry names an instruction
+abbrev pub Names : ℕ → ℕ → Option ℕ → Type 0
+Names count left entry = IfSome entry (λ e. e < count)
+
+pub record IsValid (code : Code) : Type 0 where
+  pub some : 1 ≤ length code.instrs
+  pub fits : length code.instrs ≤ 4096
+  pub instrs : AllWithLeft (Stands (length code.instrs)) code.instrs
+  pub ten : length code.handlers ≡ 10
+  pub handlers : AllWithLeft (Names (length code.instrs)) code.handlers

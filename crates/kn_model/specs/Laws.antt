@@ -1,0 +1,125 @@
+-- The laws of the model, as statements.
+use Rattle.std.specs.Prelude.{◌≡◌, ◌≢◌, ℕ, ◌<◌, ◌≤◌, Bool, true, false, ◌⊎◌, List, [], ◌∷◌, length, map, filter, flat_map, Contains, Some, None, slice_get}
+use Rattle.std.specs.List.{AllByRecursion}
+use Rattle.kn_code.specs.declared.program.Instr.{Instr}
+use Rattle.kn_code.specs.declared.program.Instr.TheVariants as instrs
+use Rattle.kn_code.specs.Code.{Code}
+use Rattle.kn_model.specs.Terms.{Term, Valuation, terms, words}
+use Rattle.kn_model.specs.Histories.{Event, History, followed}
+use Rattle.kn_model.specs.Packets.{Packet, Parcel, put_all, packet_le}
+use Rattle.kn_model.specs.Nodes.{State, Node}
+use Rattle.kn_model.specs.Nets.{Network, Link}
+use Rattle.kn_model.specs.Due.{due, left}
+use Rattle.kn_model.specs.Paths.{Path, event_paths}
+use Rattle.kn_model.specs.Scenarios.{Scenario, name_of, cob, copies, finish, receive, node_at, settled}
+use Rattle.kn_model.specs.Conditions.{holds}
+use Rattle.kn_model.specs.Concrete.{concrete, scenario_under, path_under, state_under}
+use Rattle.kn_model.specs.Replays.{node_of, own_of}
+use Rattle.kn_model.specs.Alikes.{seen}
+use Rattle.kn_model.specs.Picks.{SameItems}
+
+-- a state with these packets in its queue
+abbrev pub queued_all : {V : Type 0} → List (Packet V) → State V → State V
+queued_all ps s = record s { queue = put_all packet_le ps s.queue }
+
+-- what the laws need of a network: packets and timers come in later ticks
+abbrev pub SetsLater : Instr → Type 0
+SetsLater (instrs.Timer number d) = 1 ≤ d
+SetsLater i = Unit {0}
+
+pub record IsNet (net : Network) : Type 0 where
+  pub delays : AllByRecursion (λ (l : Link). 1 ≤ l.delay) net.links
+  pub timers : AllByRecursion (λ (c : Code). AllByRecursion SetsLater c.instrs) net.programs
+
+-- Of copying the whole network, the members that hold under the inputs are the run on them, which is one network.
+abbrev pub Coverage : Type 0
+Coverage = (net : Network) (a : Valuation) (t : ℕ) → IsNet net → map (scenario_under a) (filter (λ (s : Scenario Term). holds a s.condition) (cob terms net t)) ≡ concrete net a t
+
+abbrev pub OneRun : Type 0
+OneRun = (net : Network) (a : Valuation) (t : ℕ) → length (concrete net a t) ≡ 1
+
+-- Events of two nodes commute, and so a tick may be finished from the copies that one event makes.
+abbrev pub Commuting : Type 0
+Commuting = (net : Network) (m n t : ℕ) (s : Scenario Term) → IsNet net → m ≢ n → m < length s.nodes → n < length s.nodes
+    → SameItems (map seen (flat_map (copies terms net n t) (copies terms net m t s))) (map seen (flat_map (copies terms net m t) (copies terms net n t s)))
+
+abbrev pub FinishFromCopies : Type 0
+FinishFromCopies = (net : Network) (n t : ℕ) (s : Scenario Term) → IsNet net → length s.nodes ≡ length net.nodes → n < length net.nodes
+    → SameItems (map seen (finish terms net t s)) (map seen (flat_map (finish terms net t) (copies terms net n t s)))
+
+-- two lists of bits differ at a place that both have
+abbrev pub Apart : List Bool → List Bool → Type 0
+Apart [] ys = ⊥
+Apart (x ∷ xs) [] = ⊥
+Apart (false ∷ xs) (false ∷ ys) = Apart xs ys
+Apart (false ∷ xs) (true ∷ ys) = Unit {0}
+Apart (true ∷ xs) (false ∷ ys) = Unit {0}
+Apart (true ∷ xs) (true ∷ ys) = Apart xs ys
+
+abbrev pub AreApart : List (List Bool) → Type 0
+AreApart [] = Unit {0}
+AreApart (x ∷ xs) = AllByRecursion (Apart x) xs × AreApart xs
+
+-- two names are apart at some node
+abbrev pub NamesApart : List (List Bool) → List (List Bool) → Type 0
+NamesApart [] ys = ⊥
+NamesApart (x ∷ xs) [] = ⊥
+NamesApart (x ∷ xs) (y ∷ ys) = Apart x y ⊎ NamesApart xs ys
+
+abbrev pub AllNamesApart : List (List (List Bool)) → Type 0
+AllNamesApart [] = Unit {0}
+AllNamesApart (x ∷ xs) = AllByRecursion (NamesApart x) xs × AllNamesApart xs
+
+abbrev pub DistinctNames : Type 0
+DistinctNames = (net : Network) (t : ℕ) → IsNet net → AllNamesApart (map name_of (cob terms net t))
+
+-- A node of a scenario is what its history makes.
+abbrev pub HistoriesTell : Type 0
+HistoriesTell = (net : Network) (t n : ℕ) (s : Scenario Term) (y : Node Term) → IsNet net → Contains (cob terms net t) s → slice_get s.nodes n ≡ Some y → node_of terms net n y.history ≡ y
+
+-- A scenario's condition implies each node's own condition; a history's own condition implies that of each history that it begins with.
+abbrev pub OwnImplied : Type 0
+OwnImplied = (net : Network) (a : Valuation) (t : ℕ) (s : Scenario Term) (y : Node Term) → Contains (cob terms net t) s → Contains s.nodes y → holds a s.condition ≡ true → holds a y.state.own ≡ true
+
+abbrev pub BeginningImplied : Type 0
+BeginningImplied = (net : Network) (a : Valuation) (n : ℕ) (h more : History) → holds a (own_of net n (followed h more)) ≡ true → holds a (own_of net n h) ≡ true
+
+-- Each path of a due event leaves less for the tick.
+abbrev pub FallingWork : Type 0
+FallingWork = (net : Network) (n t : ℕ) (e : Event) (s : State Term) → IsNet net → due net.limits.ticks t s ≡ Some e
+    → AllByRecursion (λ (p : Path Term). left net.limits.ticks t p.state < left net.limits.ticks t s) (event_paths terms net n t e s)
+
+-- What a node sends is from it, is no copy, and arrives later.
+abbrev pub IsSentBy : ℕ → ℕ → Packet Term → Type 0
+IsSentBy n t q = (q.from ≡ n) × (q.copy ≡ 0) × (t < q.arrival)
+
+abbrev pub SendsLater : Type 0
+SendsLater = (net : Network) (n t : ℕ) (e : Event) (s : State Term) → IsNet net
+    → AllByRecursion (λ (p : Path Term). AllByRecursion (IsSentBy n t) p.sends) (event_paths terms net n t e s)
+
+-- Of two paths of an event the bits differ at a place that both have.
+abbrev pub PathsApart : Type 0
+PathsApart = (net : Network) (n t : ℕ) (e : Event) (s : State Term) → IsNet net → AreApart (map (λ (p : Path Term). p.bits) (event_paths terms net n t e s))
+
+-- The paths of an event whose literals hold under the inputs are the paths over words.
+abbrev pub EventsCovered : Type 0
+EventsCovered = (net : Network) (a : Valuation) (n t : ℕ) (e : Event) (s : State Term) → IsNet net
+    → map (path_under a) (filter (λ (p : Path Term). holds a p.literals) (event_paths terms net n t e s)) ≡ event_paths (words a) net n t e (state_under a s)
+
+-- Packets that come in later ticks change no path of an event, and travel along in the queue.
+abbrev pub LaterPacketsTravel : Type 0
+LaterPacketsTravel = (net : Network) (n t : ℕ) (e : Event) (s : State Term) (ps : List (Packet Term)) → AllByRecursion (λ (p : Packet Term). (t < p.arrival) × (p.copy ≡ 0)) ps
+    → event_paths terms net n t e (queued_all ps s) ≡ map (λ (p : Path Term). record p { state = queued_all ps p.state }) (event_paths terms net n t e s)
+
+-- Parcels of two senders: in which order a node receives them makes no difference.
+abbrev pub IsFrom : ℕ → Parcel Term → Type 0
+IsFrom n p = p.packet.from ≡ n
+
+abbrev pub ReceivingCommutes : Type 0
+ReceivingCommutes = (a b i : ℕ) (ps qs : List (Parcel Term)) (y : Node Term) → a ≢ b → AllByRecursion (IsFrom a) ps → AllByRecursion (IsFrom b) qs
+    → receive i ps (receive i qs y) ≡ receive i qs (receive i ps y)
+
+-- As many turns as events are left are enough: then none is due.
+abbrev pub SettledIsDone : Type 0
+SettledIsDone = (net : Network) (n t : ℕ) (s : Scenario Term) → IsNet net → n < length s.nodes
+    → AllByRecursion (λ (u : Scenario Term). due net.limits.ticks t (node_at terms u n).state ≡ None) (settled terms net t n s)
