@@ -1,0 +1,2 @@
+//! netsym: symbolic execution of a whole network of small nodes.
+#![tactic(auto)]
