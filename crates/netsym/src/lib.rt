@@ -1,2 +1,4 @@
 //! netsym: symbolic execution of a whole network of small nodes.
 #![tactic(auto)]
+
+mod net;
