@@ -1,2 +1,4 @@
 pub mod Plans
 pub mod Shown
+pub mod Listing
+pub mod Texts

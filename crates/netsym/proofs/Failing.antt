@@ -1,0 +1,553 @@
+-- The failure lines of kept scenarios are given.
+use Rattle.std.proofs.Common.{◌≡◌, inl, inr, ℕ, zero, suc, ◌+◌, ◌<◌, ◌≤◌, Bool, true, false, cond, List, [], ◌∷◌, ◌++◌, length, map, take, drop, Some, refl, sym, ap, subst, ◌∙◌, arith, append_assoc}
+use Rattle.std.specs.Prelude.{Contains, slice_get, flat_map, ◌&&◌}
+use Rattle.std.specs.List.{AllByRecursion}
+use Rattle.std.proofs.lemmas.List.{length-append, length-map, map-append, take_at, drop_at}
+use Rattle.std.proofs.lemmas.List.Concat.{flat_map-cons, flat_map-append}
+use Rattle.std.proofs.lemmas.List.Elements.{Contains-append_left, Contains-append_right, Contains-append_cases}
+use Rattle.std.specs.declared.cmp.Ordering.{Ordering}
+use Rattle.std.specs.declared.cmp.Ordering.TheVariants.{Less, Equal}
+use Rattle.std.specs.Ordering.{nat_cmp, bool_cmp}
+use Rattle.std.specs.Cmp.{nat_cmp_is}
+use Rattle.kn_model.specs.Terms.{Term, Valuation}
+use Rattle.kn_model.specs.Nodes.{State, Node, Outcome, Running, Halted, Failed}
+use Rattle.kn_model.specs.Nets.{Network}
+use Rattle.kn_model.specs.Scenarios.{Scenario, name_of}
+use Rattle.kn_model.specs.Conditions.{Condition, Query, that, that_with, holds, literal_holds, IsLeast, IsImpossible, AreDistinct, StandsFor, Inputs}
+use Rattle.kn_model.specs.Concrete.{node_under, scenario_under}
+use Rattle.kn_model.specs.Deciding.{IsPlain, clashes, forced, joined}
+use Rattle.kn_model.specs.Reports.{Report, StateLine, FailureLine, Reach, At, Nowhere, Names, all_picks, pick_name, trace_cmp, Gives, Shows, IsFailure, IsFailedState, Rises, own_at, OwnsOf, AllOwnsOf, IsQuery, pick_condition, RunShows, IsReached, ReachIs, singles}
+use Rattle.netsym.specs.Shown.{states_of}
+use Rattle.std.specs.Cmp.Lexicographic.{slice_cmp}
+use Rattle.kn_model.specs.Picks.{picks}
+use Rattle.netsym.specs.Listing.{dstates_from, line_of, numbers, reach_of, failure_of, failures_in, failures_from}
+use Rattle.netsym.proofs.Numbered.{some_one, none_some, get_behind, get_map, map_get, get_less, get_some, contained_at, all_at, all_mapped, first_of, singles_at, one_of, all_contained, AreLong, at_numbers, at_singles, only, contains_at}
+use Rattle.netsym.proofs.Given.{IsListing, lists, state, Kept, kept_at, kept_of, is_member, pick_is, is_pick, all_names, rows_run, long_lists, names_kept, shows_kept, Found, found, line_is, same_place, same_node, node_found, node_in, line_at, N, r}
+
+-- ---- columns of one state each
+
+abbrev alone : ℕ → List ℕ
+alone j = j ∷ []
+
+singles_split : (a b j : ℕ) → singles (a + suc b) j ≡ singles a j ++ ((j + a) ∷ []) ∷ singles b ((j + a) + 1)
+singles_split zero b j =
+    let n : zero + suc b ≡ suc b = omega arith in
+    let p : j ≡ j + zero = omega arith in
+    ap (λ k. singles k j) n ∙ ap (λ (k : ℕ). (k ∷ []) ∷ singles b (k + 1)) p
+singles_split (suc a) b j =
+    let n : suc a + suc b ≡ suc (a + suc b) = omega arith in
+    let p : (j + 1) + a ≡ j + suc a = omega arith in
+    ap (λ k. singles k j) n ∙ ap (λ (l : List (List ℕ)). (j ∷ []) ∷ l) (singles_split a b (j + 1) ∙ ap (λ (k : ℕ). singles a (j + 1) ++ (k ∷ []) ∷ singles b (k + 1)) p)
+
+singles_alone : (a j : ℕ) → singles a j ≡ map alone (numbers a j)
+singles_alone zero j = refl
+singles_alone (suc a) j = ap (λ (l : List (List ℕ)). (j ∷ []) ∷ l) (singles_alone a (j + 1))
+
+length-singles : (a j : ℕ) → length (singles a j) ≡ a
+length-singles zero j = refl
+length-singles (suc a) j = ap suc (length-singles a (j + 1))
+
+-- the columns before and after one of them
+others_alone : (a b j : ℕ) → take a (singles (a + suc b) j) ++ drop (a + 1) (singles (a + suc b) j) ≡ map alone (numbers a j ++ numbers b ((j + a) + 1))
+others_alone a b j =
+    let front = singles a j in
+    let this : List (List ℕ) = ((j + a) ∷ []) ∷ [] in
+    let back = singles b ((j + a) + 1) in
+    let split : singles (a + suc b) j ≡ front ++ (this ++ back) = singles_split a b j in
+    let taken : take a (front ++ (this ++ back)) ≡ front = take_at front (this ++ back) a (length-singles a j) in
+    let longer : length (front ++ this) ≡ a + 1 = omega (arith, length-append front this, length-singles a j) in
+    let dropped : drop (a + 1) (front ++ (this ++ back)) ≡ back = ap (drop (a + 1)) (sym (append_assoc front this back)) ∙ drop_at (front ++ this) back (a + 1) longer in
+    ap (λ l. take a l ++ drop (a + 1) l) split
+    ∙ ap (λ l. l ++ drop (a + 1) (front ++ (this ++ back))) taken
+    ∙ ap (λ l. front ++ l) dropped
+    ∙ ap (λ l. l ++ back) (singles_alone a j)
+    ∙ ap (λ l. map alone (numbers a j) ++ l) (singles_alone b ((j + a) + 1))
+    ∙ sym (map-append alone (numbers a j) (numbers b ((j + a) + 1)))
+
+-- ---- conditions that are joined
+
+holds-append : (a : Valuation) (c d : Condition) → holds a (c ++ d) ≡ (holds a c && holds a d)
+holds-append a [] d = refl
+holds-append a (l ∷ c) d = ap (λ (b : Bool). literal_holds a l && b) (holds-append a c d) ∙ and_assoc (literal_holds a l) (holds a c) (holds a d)
+  where
+    and_assoc : (x y z : Bool) → (x && (y && z)) ≡ ((x && y) && z)
+    and_assoc true y z = refl
+    and_assoc false y z = refl
+
+both_true : (x y : Bool) → (x && y) ≡ true → (x ≡ true) × (y ≡ true)
+both_true true y e = (refl, e)
+both_true false y e = absurd cc
+
+and_true : (x y : Bool) → x ≡ true → y ≡ true → (x && y) ≡ true
+and_true true y p q = q
+and_true false y p q = absurd cc
+
+abbrev own : State Term → Condition
+own s = s.own
+
+joined-append : (ss ts : List (State Term)) → joined (ss ++ ts) ≡ joined ss ++ joined ts
+joined-append ss ts = flat_map-append own ss ts
+
+-- the order in which own conditions are joined makes no difference
+joined_in_order : (a : Valuation) (before : List (State Term)) (s : State Term) (after : List (State Term)) → holds a (s.own ++ joined (before ++ after)) ≡ true → holds a (joined (before ++ (s ∷ after))) ≡ true
+joined_in_order a before s after h =
+    let two = both_true (holds a s.own) (holds a (joined (before ++ after))) (sym (holds-append a s.own (joined (before ++ after))) ∙ h) in
+    let parts = both_true (holds a (joined before)) (holds a (joined after)) (sym (ap (holds a) (joined-append before after) ∙ holds-append a (joined before) (joined after)) ∙ two.1) in
+    let rest : holds a (joined (s ∷ after)) ≡ true = ap (holds a) (flat_map-cons own s after) ∙ (holds-append a s.own (joined after) ∙ and_true (holds a s.own) (holds a (joined after)) two.0 parts.1) in
+    ap (holds a) (joined-append before (s ∷ after)) ∙ (holds-append a (joined before) (joined (s ∷ after)) ∙ and_true (holds a (joined before)) (holds a (joined (s ∷ after))) parts.0 rest)
+
+abbrev node_own : Node Term → Condition
+node_own y = y.state.own
+
+pick_is_joined : (ys : List (Node Term)) → pick_condition ys ≡ joined (map state ys)
+pick_is_joined [] = refl
+pick_is_joined (y ∷ ys) = flat_map-cons node_own y ys ∙ (ap (λ (c : Condition). y.state.own ++ c) (pick_is_joined ys) ∙ sym (flat_map-cons own y.state (map state ys)))
+
+plain_append : (c d : Condition) → IsPlain c → IsPlain d → IsPlain (c ++ d)
+plain_append [] d p q = q
+plain_append (l ∷ c) d p q = (p.0, plain_append c d p.1 q)
+
+plain_joined : (ss : List (State Term)) → AllByRecursion (λ (s : State Term). IsPlain s.own) ss → IsPlain (joined ss)
+plain_joined [] h = tt
+plain_joined (s ∷ ss) h = subst IsPlain (sym (flat_map-cons own s ss)) (plain_append s.own (joined ss) h.0 (plain_joined ss h.1))
+
+all_split : {A : Type 0} (P : A → Type 0) (xs ys : List A) → AllByRecursion P (xs ++ ys) → AllByRecursion P xs × AllByRecursion P ys
+all_split P [] ys h = (tt, h)
+all_split P (x ∷ xs) ys h = let rest = all_split P xs ys h.1 in ((h.0, rest.0), rest.1)
+
+all_join : {A : Type 0} (P : A → Type 0) (xs ys : List A) → AllByRecursion P xs → AllByRecursion P ys → AllByRecursion P (xs ++ ys)
+all_join P [] ys p q = q
+all_join P (x ∷ xs) ys p q = (p.0, all_join P xs ys p.1 q)
+
+-- the own condition of a state as the one alternative of its column
+abbrev pub alternative : State Term → List Condition
+alternative s = s.own ∷ []
+
+-- what a valuation makes of nodes has their traces and outcomes
+run_shown : (r : Report) (a : Valuation) (p : List ℕ) (ys : List (Node Term)) → Shows r p ys → RunShows r p (map (node_under a) ys)
+run_shown r a [] [] w = tt
+run_shown r a [] (y ∷ ys) w = absurd w
+run_shown r a (i ∷ p) [] w = absurd w
+run_shown r a (i ∷ p) (y ∷ ys) w = (w.0, run_shown r a p ys w.1)
+
+less_is : (x y : ℕ) → x < y → nat_cmp x y ≡ Less
+less_is x y less = sym (nat_cmp_is x y Less less)
+
+-- an order that is reflexive is so on lists
+cmp_same : {A : Type 0} (cmp : A → A → Ordering) → ((x : A) → cmp x x ≡ Equal) → (xs : List A) → slice_cmp cmp xs xs ≡ Equal
+cmp_same cmp same [] = refl
+cmp_same cmp same (x ∷ xs) = rw (same x) (cmp_same cmp same xs)
+
+bool_same : (b : Bool) → bool_cmp b b ≡ Equal
+bool_same true = refl
+bool_same false = refl
+
+-- How plain conditions of whole scenarios are decided.
+pub record Decides : Type 0 where
+  pub least : (c : Condition) → IsPlain c → clashes c ≡ false → IsLeast (that c) (forced c)
+  pub joint_least : (c : Condition) (ss : List (State Term)) → IsPlain (c ++ joined ss) → clashes (c ++ joined ss) ≡ false → IsLeast (that_with c (map alternative ss)) (forced (c ++ joined ss))
+  pub joint_never : (c : Condition) (ss : List (State Term)) → clashes (c ++ joined ss) ≡ true → IsImpossible (that_with c (map alternative ss))
+
+module _ (net : Network) (ms : List (Scenario Term)) (h : IsListing net ms) (decides : Decides) where
+  abbrev R : Report
+  R = r net ms h
+
+  abbrev M : ℕ
+  M = N net ms h
+
+  -- the states with these numbers have the own conditions of these states, and no others
+  abbrev OwnsAre : List ℕ → List (State Term) → Type 0
+  OwnsAre [] [] = Unit {0}
+  OwnsAre [] (s ∷ ss) = ⊥
+  OwnsAre (j ∷ js) [] = ⊥
+  OwnsAre (j ∷ js) (s ∷ ss) = (((c : Condition) → own_at c net R j → c ≡ s.own) × own_at s.own net R j) × OwnsAre js ss
+
+  owns_append : (js : List ℕ) (ss : List (State Term)) (js' : List ℕ) (ss' : List (State Term)) → OwnsAre js ss → OwnsAre js' ss' → OwnsAre (js ++ js') (ss ++ ss')
+  owns_append [] [] js' ss' p q = q
+  owns_append [] (s ∷ ss) js' ss' p q = absurd p
+  owns_append (j ∷ js) [] js' ss' p q = absurd p
+  owns_append (j ∷ js) (s ∷ ss) js' ss' p q = (p.0, owns_append js ss js' ss' p.1 q)
+
+  -- columns of these numbers have these alternatives, and no others
+  owns_only : (js : List ℕ) (ss : List (State Term)) (others : List (List Condition)) → OwnsAre js ss → AllOwnsOf net R (map alone js) others → others ≡ map alternative ss
+  owns_only [] [] [] p q = refl
+  owns_only [] [] (cs ∷ others) p q = absurd q
+  owns_only [] (s ∷ ss) others p q = absurd p
+  owns_only (j ∷ js) [] others p q = absurd p
+  owns_only (j ∷ js) (s ∷ ss) [] p q = absurd q
+  owns_only (j ∷ js) (s ∷ ss) (cs ∷ others) p q = ap (λ (l : List Condition). l ∷ others) (one cs q.0) ∙ ap (λ (l : List (List Condition)). alternative s ∷ l) (owns_only js ss others p.1 q.1)
+    where
+      one : (cs : List Condition) → OwnsOf net R (j ∷ []) cs → cs ≡ alternative s
+      one [] w = absurd w
+      one (c ∷ []) w = ap (λ (d : Condition). d ∷ []) (p.0.0 c w.0)
+      one (c ∷ d ∷ cs) w = absurd w.1
+
+  owns_there : (js : List ℕ) (ss : List (State Term)) → OwnsAre js ss → AllOwnsOf net R (map alone js) (map alternative ss)
+  owns_there [] [] p = tt
+  owns_there [] (s ∷ ss) p = absurd p
+  owns_there (j ∷ js) [] p = absurd p
+  owns_there (j ∷ js) (s ∷ ss) p = ((p.0.1, tt), owns_there js ss p.1)
+
+  -- the states behind a front of a scenario's states
+  owns_behind : (d : ℕ) (columns : List (List ℕ)) (k : Kept net ms h d columns) (front ss : List (State Term)) (j : ℕ) → states_of k.scenario ≡ front ++ ss → j ≡ first_of M 0 d + length front
+      → OwnsAre (numbers (length ss) j) ss
+  owns_behind d columns k front [] j e at = tt
+  owns_behind d columns k front (s ∷ ss) j e at =
+      let y = get_map state k.scenario.nodes (length front) s (ap (λ (l : List (State Term)). slice_get l (length front)) e ∙ get_behind front s ss) in
+      let f : Found net ms h j = record { d = d; n = length front; columns = columns; kept = k; node = y.0; there = y.1; is = at } in
+      let longer : j + 1 ≡ first_of M 0 d + length (front ++ (s ∷ [])) = omega (arith, at, length-append front (s ∷ [])) in
+      (
+        (
+          λ c o.
+              let g = node_found net ms h j o.0 o.1 in
+              sym o.2 ∙ (ap node_own (sym g.1) ∙ (ap node_own (sym (same_node net ms h j j f g.0 refl)) ∙ ap own y.2)),
+          (y.0, node_in net ms h j f, ap own y.2),
+        ),
+        owns_behind d columns k (front ++ (s ∷ [])) ss (j + 1) (e ∙ sym (append_assoc front (s ∷ []) ss)) longer,
+      )
+
+  -- ---- a state among those of its scenario
+
+  module _ (i : ℕ) (f : Found net ms h i) (before after : List (State Term)) (split : states_of f.kept.scenario ≡ before ++ (f.node.state ∷ after)) (place : f.n ≡ length before) where
+    abbrev first : ℕ
+    first = first_of M 0 f.d
+
+    abbrev this : State Term
+    this = f.node.state
+
+    abbrev others : List (State Term)
+    others = before ++ after
+
+    count : M ≡ length before + suc (length after)
+    count = sym f.kept.whole ∙ (sym (length-map f.kept.scenario.nodes state) ∙ (ap length split ∙ length-append before (this ∷ after)))
+
+    js : List ℕ
+    js = numbers (length before) first ++ numbers (length after) ((first + length before) + 1)
+
+    other_owns : OwnsAre (numbers (length before) first ++ numbers (length after) ((first + length before) + 1)) others
+    other_owns =
+        let all = owns_behind f.d f.columns f.kept [] (before ++ (this ∷ after)) first split (omega arith) in
+        let back : (first + length before) + 1 ≡ first + length (before ++ (this ∷ [])) = omega (arith, length-append before (this ∷ [])) in
+        let rest = owns_behind f.d f.columns f.kept (before ++ (this ∷ [])) after ((first + length before) + 1) (split ∙ sym (append_assoc before (this ∷ []) after)) back in
+        owns_append (numbers (length before) first) before (numbers (length after) ((first + length before) + 1)) after (front before (this ∷ after) first all) rest
+      where
+        front : (xs ys : List (State Term)) (j : ℕ) → OwnsAre (numbers (length (xs ++ ys)) j) (xs ++ ys) → OwnsAre (numbers (length xs) j) xs
+        front [] ys j p = tt
+        front (x ∷ xs) ys j p = (p.0, front xs ys (j + 1) p.1)
+
+    -- the other columns of its dstate
+    columns_are : take f.n f.columns ++ drop (f.n + 1) f.columns ≡ map alone (numbers (length before) first ++ numbers (length after) ((first + length before) + 1))
+    columns_are =
+        ap (λ (l : List (List ℕ)). take f.n l ++ drop (f.n + 1) l) (f.kept.columns_are ∙ ap (λ (k : ℕ). singles k first) count)
+        ∙ (ap (λ (n : ℕ). take n (singles (length before + suc (length after)) first) ++ drop (n + 1) (singles (length before + suc (length after)) first)) place
+        ∙ others_alone (length before) (length after) first)
+
+    -- its one query
+    query_is : (e : ℕ) (q : Query) → IsQuery net R e i q → (e ≡ f.d) × (q ≡ that_with this.own (map alternative others))
+    query_is e q asked =
+        let k = kept_at net ms h e asked.columns asked.dstate in
+        let line = line_is net ms h i f asked.line asked.is in
+        let node : asked.line.node ≡ f.n = ap (λ (l : StateLine). l.node) line in
+        let column = singles_at M (first_of M 0 e) asked.line.node asked.column (ap (λ (l : List (List ℕ)). slice_get l asked.line.node) (sym k.columns_are) ∙ asked.of) in
+        let number : i ≡ first_of M 0 e + asked.line.node = sym (one_of (first_of M 0 e + asked.line.node) i (subst (λ (l : List ℕ). Contains l i) column.1 asked.in_column)) in
+        let y = get_some k.scenario.nodes asked.line.node (omega (arith, column.0, k.whole)) in
+        let g : Found net ms h i = record { d = e; n = asked.line.node; columns = asked.columns; kept = k; node = y.0; there = y.1; is = number } in
+        let same = same_place net ms h i i f g refl in
+        let mine = node_found net ms h i asked.own_is.0 asked.own_is.1 in
+        let own_is : asked.own ≡ this.own = sym asked.own_is.2 ∙ (ap node_own (sym mine.1) ∙ ap node_own (sym (same_node net ms h i i f mine.0 refl))) in
+        let columns : asked.columns ≡ f.columns = k.columns_are ∙ (ap (λ (d : ℕ). singles M (first_of M 0 d)) (sym same.0) ∙ sym f.kept.columns_are) in
+        let cut : take asked.line.node asked.columns ++ drop (asked.line.node + 1) asked.columns ≡ map alone (numbers (length before) first ++ numbers (length after) ((first + length before) + 1)) =
+            ap (λ (l : List (List ℕ)). take asked.line.node l ++ drop (asked.line.node + 1) l) columns ∙ (ap (λ (n : ℕ). take n f.columns ++ drop (n + 1) f.columns) node ∙ columns_are) in
+        let rest = owns_only (numbers (length before) first ++ numbers (length after) ((first + length before) + 1)) others asked.others other_owns (subst (λ (l : List (List ℕ)). AllOwnsOf net R l asked.others) cut asked.others_are) in
+        (sym same.0, asked.query ∙ (ap (λ (c : Condition). that_with c asked.others) own_is ∙ ap (that_with this.own) rest))
+
+    is_query : IsQuery net R f.d i (that_with this.own (map alternative others))
+    is_query =
+        let line = ap (slice_get R.states) f.is ∙ line_at net ms h f.d f.n f.columns f.kept f.node f.there in
+        let less : f.n < M = (let here = get_less f.kept.scenario.nodes f.n f.node f.there in omega (arith, here, f.kept.whole)) in
+        record {
+          line = line_of f.n this;
+          is = line;
+          columns = f.columns;
+          dstate = f.kept.there;
+          column = (first + f.n) ∷ [];
+          of = ap (λ (l : List (List ℕ)). slice_get l f.n) f.kept.columns_are ∙ at_singles M first f.n less;
+          in_column = subst (λ (j : ℕ). Contains ((first + f.n) ∷ []) j) (sym f.is) (only (first + f.n));
+          own = this.own;
+          own_is = (f.node, node_in net ms h i f, refl);
+          others = map alternative others;
+          others_are = subst (λ (l : List (List ℕ)). AllOwnsOf net R l (map alternative others)) (sym columns_are) (owns_there (numbers (length before) first ++ numbers (length after) ((first + length before) + 1)) others other_owns);
+          query = refl;
+        }
+
+    -- all own conditions of its scenario are plain
+    plain_whole : IsPlain (this.own ++ joined others)
+    plain_whole =
+        let nodes = all_at (λ (s : Scenario Term). AllByRecursion (λ (y : Node Term). IsPlain y.state.own) s.nodes) ms f.d f.kept.scenario h.plain f.kept.member in
+        let states : AllByRecursion (λ (s : State Term). IsPlain s.own) (before ++ (this ∷ after)) =
+            subst (AllByRecursion (λ (s : State Term). IsPlain s.own)) split (all_mapped (λ (y : Node Term). IsPlain y.state.own) (λ (s : State Term). IsPlain s.own) state (λ y p. p) f.kept.scenario.nodes nodes) in
+        let parts = all_split (λ (s : State Term). IsPlain s.own) before (this ∷ after) states in
+        plain_append this.own (joined others) parts.1.0 (plain_joined others (all_join (λ (s : State Term). IsPlain s.own) before after parts.0 parts.1.1))
+
+    run_shows : (a : Valuation) → RunShows R (numbers M first) (scenario_under a f.kept.scenario).nodes
+    run_shows a = run_shown R a (numbers M first) f.kept.scenario.nodes (shows_kept net ms h f.d f.columns f.kept)
+
+    reached : clashes (this.own ++ joined others) ≡ false → IsReached net R i f.d (numbers M first) (forced (this.own ++ joined others))
+    reached sure =
+        let c = this.own ++ joined others in
+        let a = forced c in
+        let own_least = decides.least c plain_whole sure in
+        let meets : holds a c ≡ true = ap (λ (b : Valuation). holds b c) own_least.is ∙ own_least.meet.1 in
+        let whole : holds a (pick_condition f.kept.scenario.nodes) ≡ true = ap (holds a) (pick_is_joined f.kept.scenario.nodes ∙ ap joined split) ∙ joined_in_order a before this after meets in
+        let less : f.n < M = (let here = get_less f.kept.scenario.nodes f.n f.node f.there in omega (arith, here, f.kept.whole)) in
+        record {
+          picked = is_pick net ms h f.d f.columns f.kept;
+          with = subst (λ (j : ℕ). Contains (numbers M first) j) (sym f.is) (contains_at (numbers M first) f.n (first + f.n) (at_numbers M first f.n less));
+          scenario = f.kept.scenario;
+          named = names_kept net ms h f.d f.columns f.kept;
+          meets = whole;
+          query = that_with this.own (map alternative others);
+          is_query = is_query;
+          least = decides.joint_least this.own others plain_whole sure;
+          run = scenario_under a f.kept.scenario;
+          concrete_run = h.runs f.kept.scenario a (is_member net ms h f.d f.columns f.kept) whole;
+          shows = run_shows a;
+          earlier = λ e q less asked. let same = (query_is e q asked).0 in absurd (omega (arith, same, less));
+        }
+
+    pub reach_is : ReachIs net R i (reach_of M f.d first (this.own ++ joined others))
+    reach_is = go (clashes (this.own ++ joined others)) refl
+      where
+        go : (b : Bool) → clashes (this.own ++ joined others) ≡ b → ReachIs net R i (cond b Nowhere (At f.d (numbers M first) (forced (this.own ++ joined others))))
+        go true e = λ d q asked. subst IsImpossible (sym (query_is d q asked).1) (decides.joint_never this.own others e)
+        go false e = reached e
+
+  -- ---- all failure lines
+
+  abbrev Holds : FailureLine → Type 0
+  Holds w = ReachIs net R w.state w.reach × IsFailedState R w.state
+
+  first_next : (i d : ℕ) → first_of M i (suc d) ≡ first_of M i d + M
+  first_next i zero = refl
+  first_next i (suc d) = first_next (i + M) d
+
+  failures_hold_in : (d : ℕ) (columns : List (List ℕ)) (k : Kept net ms h d columns) (n : ℕ) (before after : List (State Term)) → states_of k.scenario ≡ before ++ after → n ≡ length before
+      → AllByRecursion Holds (failures_in M d (first_of M 0 d) n before after)
+  failures_hold_in d columns k n before [] split place = tt
+  failures_hold_in d columns k n before (s ∷ after) split place =
+      let y = get_map state k.scenario.nodes n s (ap (λ (l : List (State Term)). slice_get l n) split ∙ (ap (slice_get (before ++ (s ∷ after))) place ∙ get_behind before s after)) in
+      let i = first_of M 0 d + n in
+      let f : Found net ms h i = record { d = d; n = n; columns = columns; kept = k; node = y.0; there = y.1; is = refl } in
+      let here : states_of k.scenario ≡ before ++ (y.0.state ∷ after) = split ∙ ap (λ (x : State Term). before ++ (x ∷ after)) (sym y.2) in
+      let reach : ReachIs net R i (reach_of M d (first_of M 0 d) (s.own ++ joined (before ++ after))) =
+          subst (λ (x : State Term). ReachIs net R i (reach_of M d (first_of M 0 d) (x.own ++ joined (before ++ after)))) y.2 (reach_is i f before after here place) in
+      let longer : n + 1 ≡ length (before ++ (s ∷ [])) = omega (arith, place, length-append before (s ∷ [])) in
+      all_join Holds (failure_of i (reach_of M d (first_of M 0 d) (s.own ++ joined (before ++ after))) s.outcome) (failures_in M d (first_of M 0 d) (n + 1) (before ++ (s ∷ [])) after)
+      (one i (reach_of M d (first_of M 0 d) (s.own ++ joined (before ++ after))) reach s.outcome (λ w. (line_of n y.0.state, line_at net ms h d n columns k y.0 y.1, subst (λ (x : State Term). IsFailure x.outcome) (sym y.2) w)))
+      (failures_hold_in d columns k (n + 1) (before ++ (s ∷ [])) after (split ∙ sym (append_assoc before (s ∷ []) after)) longer)
+    where
+      one : (i : ℕ) (reach : Reach) → ReachIs net R i reach → (o : Outcome) → (IsFailure o → IsFailedState R i) → AllByRecursion Holds (failure_of i reach o)
+      one i reach w Running g = tt
+      one i reach w Halted g = tt
+      one i reach w (Failed kind pc tick) g = ((w, g tt), tt)
+
+  failures_hold_from : (front ns : List (Scenario Term)) (d i : ℕ) → ms ≡ front ++ ns → d ≡ length front → i ≡ first_of M 0 d → AllByRecursion Holds (failures_from M d i (lists ns))
+  failures_hold_from front [] d i split place first = tt
+  failures_hold_from front (s ∷ ns) d i split place first =
+      let at : slice_get ms d ≡ Some s = ap (λ (l : List (Scenario Term)). slice_get l d) split ∙ (ap (slice_get (front ++ (s ∷ ns))) place ∙ get_behind front s ns) in
+      let k = kept_of net ms h d s at in
+      let same : states_of k.scenario ≡ states_of s = ap states_of (some_one k.scenario s (sym k.member ∙ at)) in
+      let here = failures_hold_in d (singles M (first_of M 0 d)) k 0 [] (states_of s) same refl in
+      let longer : d + 1 ≡ length (front ++ (s ∷ [])) = omega (arith, place, length-append front (s ∷ [])) in
+      let suc_d : suc d ≡ d + 1 = omega arith in
+      let next : i + M ≡ first_of M 0 (d + 1) = ap (λ (j : ℕ). j + M) first ∙ (sym (first_next 0 d) ∙ ap (first_of M 0) suc_d) in
+      all_join Holds (failures_in M d i 0 [] (states_of s)) (failures_from M (d + 1) (i + M) (lists ns))
+      (subst (λ (j : ℕ). AllByRecursion Holds (failures_in M d j 0 [] (states_of s))) (sym first) here)
+      (failures_hold_from (front ++ (s ∷ [])) ns (d + 1) (i + M) (split ∙ sym (append_assoc front (s ∷ []) ns)) longer next)
+
+  pub failures_hold : AllByRecursion Holds (failures_from M 0 0 (lists ms))
+  failures_hold = failures_hold_from [] ms 0 0 refl refl refl
+
+  abbrev number : FailureLine → ℕ
+  number w = w.state
+
+  fails_in : (d i n : ℕ) (before after : List (State Term)) (m : ℕ) (s : State Term) → slice_get after m ≡ Some s → IsFailure s.outcome → Contains (map number (failures_in M d i n before after)) (i + (n + m))
+  fails_in d i n before [] m s e w = none_some s e
+  fails_in d i n before (x ∷ after) zero s e w =
+      let here = failure_of (i + n) (reach_of M d i (x.own ++ joined (before ++ after))) x.outcome in
+      let rest = failures_in M d i (n + 1) (before ++ (x ∷ [])) after in
+      let place : i + n ≡ i + (n + zero) = omega arith in
+      subst (λ (l : List ℕ). Contains l (i + (n + zero))) (sym (map-append number here rest))
+      (Contains-append_left (map number here) (map number rest) (i + (n + zero)) (subst (λ (j : ℕ). Contains (map number here) j) place (one (i + n) (reach_of M d i (x.own ++ joined (before ++ after))) x.outcome (subst (λ (z : State Term). IsFailure z.outcome) (sym (some_one x s e)) w))))
+    where
+      one : (j : ℕ) (reach : Reach) (o : Outcome) → IsFailure o → Contains (map number (failure_of j reach o)) j
+      one j reach Running w = absurd w
+      one j reach Halted w = absurd w
+      one j reach (Failed kind pc tick) w = only j
+  fails_in d i n before (x ∷ after) (suc m) s e w =
+      let here = failure_of (i + n) (reach_of M d i (x.own ++ joined (before ++ after))) x.outcome in
+      let rest = failures_in M d i (n + 1) (before ++ (x ∷ [])) after in
+      let place : i + ((n + 1) + m) ≡ i + (n + suc m) = omega arith in
+      subst (λ (l : List ℕ). Contains l (i + (n + suc m))) (sym (map-append number here rest))
+      (Contains-append_right (map number here) (map number rest) (i + (n + suc m)) (subst (λ (j : ℕ). Contains (map number rest) j) place (fails_in d i (n + 1) (before ++ (x ∷ [])) after m s e w)))
+
+  fails_from : (d i : ℕ) (xs : List (List (State Term))) (e : ℕ) (x : List (State Term)) (n : ℕ) (s : State Term) → slice_get xs e ≡ Some x → slice_get x n ≡ Some s → IsFailure s.outcome
+      → Contains (map number (failures_from M d i xs)) (first_of M i e + n)
+  fails_from d i [] e x n s p q w = none_some x p
+  fails_from d i (y ∷ xs) zero x n s p q w =
+      let here = failures_in M d i 0 [] y in
+      let rest = failures_from M (d + 1) (i + M) xs in
+      let place : i + (0 + n) ≡ i + n = omega arith in
+      subst (λ (l : List ℕ). Contains l (i + n)) (sym (map-append number here rest))
+      (Contains-append_left (map number here) (map number rest) (i + n) (subst (λ (j : ℕ). Contains (map number here) j) place (fails_in d i 0 [] y n s (ap (λ (l : List (State Term)). slice_get l n) (some_one y x p) ∙ q) w)))
+  fails_from d i (y ∷ xs) (suc e) x n s p q w =
+      let here = failures_in M d i 0 [] y in
+      let rest = failures_from M (d + 1) (i + M) xs in
+      subst (λ (l : List ℕ). Contains l (first_of M (i + M) e + n)) (sym (map-append number here rest))
+      (Contains-append_right (map number here) (map number rest) (first_of M (i + M) e + n) (fails_from (d + 1) (i + M) xs e x n s p q w))
+
+  pub failed_listed : (i : ℕ) → IsFailedState R i → Contains (map number (failures_from M 0 0 (lists ms))) i
+  failed_listed i failed =
+      let f = found net ms h i (get_less R.states i failed.0 failed.1) in
+      let fails : IsFailure f.node.state.outcome = subst (λ (l : StateLine). IsFailure l.outcome) (line_is net ms h i f failed.0 failed.1) failed.2 in
+      subst (λ (j : ℕ). Contains (map number (failures_from M 0 0 (lists ms))) j) (sym f.is)
+      (fails_from 0 0 (lists ms) f.d (states_of f.kept.scenario) f.n f.node.state (map_get states_of ms f.d f.kept.scenario f.kept.member) (map_get state f.kept.scenario.nodes f.n f.node f.there) fails)
+
+  -- ---- their order
+
+  rises_append : (xs ys : List FailureLine) (b : ℕ) → Rises nat_cmp (map number xs) → Rises nat_cmp (map number ys) → AllByRecursion (λ (w : FailureLine). w.state < b) xs → AllByRecursion (λ (w : FailureLine). b ≤ w.state) ys
+      → Rises nat_cmp (map number (xs ++ ys))
+  rises_append [] ys b p q u v = q
+  rises_append (x ∷ xs) ys b p q u v =
+      (subst (AllByRecursion (λ j. nat_cmp x.state j ≡ Less)) (sym (map-append number xs ys)) (all_join (λ j. nat_cmp x.state j ≡ Less) (map number xs) (map number ys) p.0 (later ys v)), rises_append xs ys b p.1 q u.1 v)
+    where
+      later : (zs : List FailureLine) → AllByRecursion (λ (w : FailureLine). b ≤ w.state) zs → AllByRecursion (λ j. nat_cmp x.state j ≡ Less) (map number zs)
+      later [] v = tt
+      later (z ∷ zs) v = (less_is x.state z.state (omega (arith, u.0, v.0)), later zs v.1)
+
+  -- a scenario's failure lines lie between its numbers
+  between : (d i n : ℕ) (before after : List (State Term)) → AllByRecursion (λ (w : FailureLine). (i + n ≤ w.state) × (w.state < i + (n + length after))) (failures_in M d i n before after)
+  between d i n before [] = tt
+  between d i n before (s ∷ after) =
+      all_join (λ (w : FailureLine). (i + n ≤ w.state) × (w.state < i + (n + suc (length after)))) (failure_of (i + n) (reach_of M d i (s.own ++ joined (before ++ after))) s.outcome) (failures_in M d i (n + 1) (before ++ (s ∷ [])) after)
+      (one (reach_of M d i (s.own ++ joined (before ++ after))) s.outcome)
+      (weaker (failures_in M d i (n + 1) (before ++ (s ∷ [])) after) (between d i (n + 1) (before ++ (s ∷ [])) after))
+    where
+      one : (reach : Reach) (o : Outcome) → AllByRecursion (λ (w : FailureLine). (i + n ≤ w.state) × (w.state < i + (n + suc (length after)))) (failure_of (i + n) reach o)
+      one reach Running = tt
+      one reach Halted = tt
+      one reach (Failed kind pc tick) = ((omega arith, omega arith), tt)
+
+      weaker : (ws : List FailureLine) → AllByRecursion (λ (w : FailureLine). (i + (n + 1) ≤ w.state) × (w.state < i + ((n + 1) + length after))) ws → AllByRecursion (λ (w : FailureLine). (i + n ≤ w.state) × (w.state < i + (n + suc (length after)))) ws
+      weaker [] u = tt
+      weaker (w ∷ ws) u = let low = u.0.0 in let high = u.0.1 in ((omega (arith, low), omega (arith, high)), weaker ws u.1)
+
+  all_low : (b : ℕ) (high : ℕ) (ws : List FailureLine) → AllByRecursion (λ (w : FailureLine). (b ≤ w.state) × (w.state < high)) ws → AllByRecursion (λ (w : FailureLine). b ≤ w.state) ws
+  all_low b high [] u = tt
+  all_low b high (w ∷ ws) u = (u.0.0, all_low b high ws u.1)
+
+  all_high : (low b : ℕ) (ws : List FailureLine) → AllByRecursion (λ (w : FailureLine). (low ≤ w.state) × (w.state < b)) ws → AllByRecursion (λ (w : FailureLine). w.state < b) ws
+  all_high low b [] u = tt
+  all_high low b (w ∷ ws) u = (u.0.1, all_high low b ws u.1)
+
+  all_lower : (a b : ℕ) → a ≤ b → (ws : List FailureLine) → AllByRecursion (λ (w : FailureLine). b ≤ w.state) ws → AllByRecursion (λ (w : FailureLine). a ≤ w.state) ws
+  all_lower a b le [] u = tt
+  all_lower a b le (w ∷ ws) u = let low = u.0 in (omega (arith, le, low), all_lower a b le ws u.1)
+
+  rises_in : (d i n : ℕ) (before after : List (State Term)) → Rises nat_cmp (map number (failures_in M d i n before after))
+  rises_in d i n before [] = tt
+  rises_in d i n before (s ∷ after) =
+      let rest = failures_in M d i (n + 1) (before ++ (s ∷ [])) after in
+      let reach = reach_of M d i (s.own ++ joined (before ++ after)) in
+      rises_append (failure_of (i + n) reach s.outcome) rest (i + (n + 1)) (alone_rises (i + n) reach s.outcome) (rises_in d i (n + 1) (before ++ (s ∷ [])) after) (one reach s.outcome)
+      (all_low (i + (n + 1)) (i + ((n + 1) + length after)) rest (between d i (n + 1) (before ++ (s ∷ [])) after))
+    where
+      alone_rises : (j : ℕ) (reach : Reach) (o : Outcome) → Rises nat_cmp (map number (failure_of j reach o))
+      alone_rises j reach Running = tt
+      alone_rises j reach Halted = tt
+      alone_rises j reach (Failed kind pc tick) = (tt, tt)
+
+      one : (reach : Reach) (o : Outcome) → AllByRecursion (λ (w : FailureLine). w.state < i + (n + 1)) (failure_of (i + n) reach o)
+      one reach Running = tt
+      one reach Halted = tt
+      one reach (Failed kind pc tick) = (omega arith, tt)
+
+  in_order_from : (d i : ℕ) (xs : List (List (State Term))) → AreLong M xs → Rises nat_cmp (map number (failures_from M d i xs)) × AllByRecursion (λ (w : FailureLine). i ≤ w.state) (failures_from M d i xs)
+  in_order_from d i [] long = (tt, tt)
+  in_order_from d i (x ∷ xs) long =
+      let here = failures_in M d i 0 [] x in
+      let rest = failures_from M (d + 1) (i + M) xs in
+      let others = in_order_from (d + 1) (i + M) xs long.1 in
+      let inside = between d i 0 [] x in
+      let top : i + (0 + length x) ≡ i + M = omega (arith, long.0) in
+      let bottom : i + 0 ≡ i = omega arith in
+      (
+        rises_append here rest (i + M) (rises_in d i 0 [] x) others.0 (subst (λ (b : ℕ). AllByRecursion (λ (w : FailureLine). w.state < b) here) top (all_high (i + 0) (i + (0 + length x)) here inside)) others.1,
+        all_join (λ (w : FailureLine). i ≤ w.state) here rest (subst (λ (b : ℕ). AllByRecursion (λ (w : FailureLine). b ≤ w.state) here) bottom (all_low (i + 0) (i + (0 + length x)) here inside)) (all_lower i (i + M) (omega arith) rest others.1),
+      )
+
+  reaches_hold : (ws : List FailureLine) → AllByRecursion Holds ws → AllByRecursion (λ (w : FailureLine). ReachIs net R w.state w.reach) ws
+  reaches_hold [] u = tt
+  reaches_hold (w ∷ ws) u = (u.0.0, reaches_hold ws u.1)
+
+  states_failed : (ws : List FailureLine) → AllByRecursion Holds ws → AllByRecursion (IsFailedState R) (map number ws)
+  states_failed [] u = tt
+  states_failed (w ∷ ws) u = (u.0.1, states_failed ws u.1)
+
+  -- a pick is that of a dstate
+  pick_place : (i : ℕ) (xs : List (List (State Term))) (p : List ℕ) → Contains (flat_map picks (dstates_from M i xs)) p → (d : ℕ) × (columns : List (List ℕ)) × (slice_get (dstates_from M i xs) d ≡ Some columns) × Contains (picks columns) p
+  pick_place i [] p c = absurd (let less = c.1 in omega (arith, less))
+  pick_place i (x ∷ xs) p c =
+      elim (Contains-append_cases (picks (singles M i)) (flat_map picks (dstates_from M (i + M) xs)) p (subst (λ (l : List (List ℕ)). Contains l p) (flat_map-cons picks (singles M i) (dstates_from M (i + M) xs)) c)) [
+        | inl here ↦ (0, singles M i, refl, here)
+        | inr rest ↦ let d = pick_place (i + M) xs p rest in (suc d.0, d.1, d.2, d.3)
+      ]
+
+  rises_distinct : (xs : List (List (List Bool))) → Rises (slice_cmp trace_cmp) xs → AreDistinct xs
+  rises_distinct [] u = tt
+  rises_distinct (x ∷ xs) u = ((λ c. never x (all_contained (λ y. slice_cmp trace_cmp x y ≡ Less) xs x u.0 c)), rises_distinct xs u.1)
+    where
+      never : (x : List (List Bool)) → slice_cmp trace_cmp x x ≡ Less → ⊥
+      never x e = let same : Less ≡ Equal = sym e ∙ cmp_same trace_cmp (cmp_same bool_cmp bool_same) x in cc
+
+  name_kept : (s : Scenario Term) → Contains ms s → Contains (map (pick_name R) (all_picks R)) (name_of s)
+  name_kept s c = let at = contained_at ms s c in subst (λ (l : List (List (List Bool))). Contains l (name_of s)) (sym (all_names net ms h)) (contains_at (map name_of ms) at.0 (name_of s) (map_get name_of ms at.0 s at.1))
+
+  pub report_given : Gives R net
+  report_given = record {
+    ticks = refl;
+    nodes = refl;
+    numbered = (rows_run M 0 (lists ms), subst (Rises (slice_cmp trace_cmp)) (sym (all_names net ms h)) h.rises);
+    of_node = λ d n i columns column line e f c g.
+        let k = kept_at net ms h d columns e in
+        let at = singles_at M (first_of M 0 d) n column (ap (λ (l : List (List ℕ)). slice_get l n) (sym k.columns_are) ∙ f) in
+        let number_is : i ≡ first_of M 0 d + n = sym (one_of (first_of M 0 d + n) i (subst (λ (l : List ℕ). Contains l i) at.1 c)) in
+        let y = get_some k.scenario.nodes n (omega (arith, at.0, k.whole)) in
+        let spot : Found net ms h i = record { d = d; n = n; columns = columns; kept = k; node = y.0; there = y.1; is = number_is } in
+        ap (λ (l : StateLine). l.node) (line_is net ms h i spot line g);
+    named = λ p c.
+        let d = pick_place 0 (lists ms) p c in
+        let k = kept_at net ms h d.0 d.1 d.2 in
+        let pick = pick_is net ms h d.0 d.1 k p d.3 in
+        (k.scenario, subst (λ (q : List ℕ). Names net R q k.scenario) (sym pick) (names_kept net ms h d.0 d.1 k));
+    once = subst AreDistinct (sym (all_names net ms h)) (rises_distinct (map name_of ms) h.rises);
+    others = λ s c none. elim (h.others s c) [ inl here ↦ absurd (none (name_kept s here)) | inr lost ↦ lost ];
+    placed = λ i less.
+        let f = found net ms h i less in
+        let here : f.n < M = (let in_nodes = get_less f.kept.scenario.nodes f.n f.node f.there in omega (arith, in_nodes, f.kept.whole)) in
+        (f.d, (f.columns, f.kept.there, ((first_of M 0 f.d + f.n) ∷ [],
+          contains_at f.columns f.n ((first_of M 0 f.d + f.n) ∷ []) (ap (λ (l : List (List ℕ)). slice_get l f.n) f.kept.columns_are ∙ at_singles M (first_of M 0 f.d) f.n here),
+          subst (λ (j : ℕ). Contains ((first_of M 0 f.d + f.n) ∷ []) j) (sym f.is) (only (first_of M 0 f.d + f.n)))));
+    standings = λ i line y e node.
+        let f = node_found net ms h i y node in
+        let nodes = all_at (λ (s : Scenario Term). AllByRecursion (λ (z : Node Term). IsPlain z.state.own) s.nodes) ms f.0.d f.0.kept.scenario h.plain f.0.kept.member in
+        let sure = all_at (λ (s : Scenario Term). AllByRecursion (λ (z : Node Term). clashes z.state.own ≡ false) s.nodes) ms f.0.d f.0.kept.scenario h.sure f.0.kept.member in
+        let plain = all_at (λ (z : Node Term). IsPlain z.state.own) f.0.kept.scenario.nodes f.0.n f.0.node nodes f.0.there in
+        let clear = all_at (λ (z : Node Term). clashes z.state.own ≡ false) f.0.kept.scenario.nodes f.0.n f.0.node sure f.0.there in
+        subst (λ (l : StateLine). StandsFor net.limits.conflicts (that y.state.own) l.standing) (sym (line_is net ms h i f.0 line e))
+        (subst (λ (z : Node Term). StandsFor net.limits.conflicts (that y.state.own) (Inputs (forced z.state.own))) (sym f.1)
+        (decides.least y.state.own (subst (λ (z : Node Term). IsPlain z.state.own) f.1 plain) (subst (λ (z : Node Term). clashes z.state.own ≡ false) f.1 clear)));
+    failures = λ i. (λ c. all_contained (IsFailedState R) (map number (failures_from M 0 0 (lists ms))) i (states_failed (failures_from M 0 0 (lists ms)) failures_hold) c, failed_listed i);
+    in_order = (in_order_from 0 0 (lists ms) (long_lists net ms h.whole)).0;
+    reaches = reaches_hold (failures_from M 0 0 (lists ms)) failures_hold;
+  }
