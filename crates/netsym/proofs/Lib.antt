@@ -1,3 +1,7 @@
 pub mod Numbered
 pub mod Given
 pub mod Failing
+pub mod Edits
+pub mod Plain
+pub mod Placing
+pub mod Printed

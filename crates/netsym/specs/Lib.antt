@@ -1,4 +1,9 @@
 pub mod Plans
 pub mod Shown
+pub mod TermCode
+pub mod Views
+pub mod Branch
+pub mod Valuations
+pub mod ReportViews
 pub mod Listing
 pub mod Texts

@@ -1,4 +1,7 @@
 //! netsym: symbolic execution of a whole network of small nodes.
 #![tactic(auto)]
 
+mod explore;
 mod net;
+mod report;
+mod valuation;
