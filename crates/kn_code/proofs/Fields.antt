@@ -13,7 +13,7 @@ use Rattle.kn_code.specs.declared.decoding.CodeFault.{CodeFault}
 use Rattle.kn_code.specs.Code.{IsInstr, Ends, Stands, Names}
 use Rattle.kn_code.specs.Rows.{the_row, row_of_lem, row_bytes, entry_bytes, instr_bytes}
 use Rattle.kn_code.specs.Decoding.{checked_lem, is_reg, instr_of_lem, row_at_lem, entry_at_lem, names, handled, handler_at, instr_placed, instr_at, placed_lem}
-use Rattle.kn_code.proofs.Laws.{IsBytes, ReadsOne}
+use Rattle.kn_code.proofs.Readings.{IsBytes, ReadsOne}
 
 pub chosen : {A : Type 0} (b : Bool) (x y z : A) → cond b x y ≡ z → ((b ≡ true) × (x ≡ z)) ⊎ ((b ≡ false) × (y ≡ z))
 chosen true x y z e = inl (refl, e)
@@ -162,14 +162,14 @@ read_bare count code last r bare i row-is fine ends e0 e =
     subst (IsReadAs count last r) c.2 here
 
 -- one opcode of the chain: its own row, or the rows that follow
-or_row : {P : Type 0} {is_mine : Bool} {here others : Result Instr RowFault} {i : Instr} → (is_mine ≡ true → here ≡ Ok i → P) → (others ≡ Ok i → P) → cond is_mine here others ≡ Ok i → P
+pub or_row : {P : Type 0} {is_mine : Bool} {here others answer : Result Instr RowFault} → (is_mine ≡ true → here ≡ answer → P) → (others ≡ answer → P) → cond is_mine here others ≡ answer → P
 or_row {is_mine = true} mine theirs e = mine refl e
 or_row {is_mine = false} mine theirs e = theirs e
 
 no_row : {P : Type 0} (i : Instr) → Err RowFaults.Opcode ≡ Ok i → P
 no_row i e = absurd cc
 
-instr_read : (count : ℕ) (last : Bool) (r : Row) (i : Instr) → instr_of_lem count last r ≡ Ok i → IsReadAs count last r i
+pub instr_read : (count : ℕ) (last : Bool) (r : Row) (i : Instr) → instr_of_lem count last r ≡ Ok i → IsReadAs count last r i
 instr_read count last r i =
     or_row (read_const count last r i)
     (or_row (read_brz count last r i)
@@ -179,7 +179,7 @@ instr_read count last r i =
     (or_row (read_bare count 0x24 last r Halt i refl tt tt)
     (no_row i))))))
 
-instr_again : (count : ℕ) (last : Bool) (i : Instr) → IsInstr count i → (last ≡ true → Ends i) → instr_of_lem count last (row_of_lem i) ≡ Ok i
+pub instr_again : (count : ℕ) (last : Bool) (i : Instr) → IsInstr count i → (last ≡ true → Ends i) → instr_of_lem count last (row_of_lem i) ≡ Ok i
 instr_again count true (Const a n) h ends = absurd (ends refl)
 instr_again count false (Const a n) h ends = rw (lt-ltb a 16 h.0) refl
 instr_again count true (Brz a to) h ends = absurd (ends refl)
@@ -228,7 +228,7 @@ p_fits count Ret small h = (omega arith, omega arith)
 p_fits count Halt small h = (omega arith, omega arith)
 p_fits count other small h = absurd h
 
-placed_ok : (place : ℕ) (r : Result Instr RowFault) (x : Instr) → instr_placed place r ≡ Ok x → r ≡ Ok x
+pub placed_ok : (place : ℕ) (r : Result Instr RowFault) (x : Instr) → instr_placed place r ≡ Ok x → r ≡ Ok x
 placed_ok place (Ok y) x e = ap (λ (o : Instr). Ok o) (ok_inj y x (Ok y) refl e)
 placed_ok place (Err n) x e = absurd cc
 
