@@ -81,13 +81,17 @@ impl Program {
         instr_among(&self.instrs, at)
     }
 
-    /// Where a handler begins: 0 is boot, 1 recv, 2 to 9 timer 0 to timer 7. None where the program has no such handler.
+    /// Where a handler begins: 0 is boot, 1 recv, 2 to 9 timer 0 to timer 7. None where the program has no such handler,
+    /// and for other numbers.
     pub fn handler(&self, index: u8) -> Option<u16>
-        requires { index < 10 }
         ensures value { result ≡ slice_index_or self.now.handlers index None }
         ensures valid { IfSome result (λ e. e < length self.now.instrs) }
     {
-        self.handlers[index as usize]
+        let handlers = &self.handlers;
+        if index as usize >= handlers.len() {
+            return None;
+        }
+        handlers[index as usize]
     }
 
     /// Where boot begins, or None where the program has no boot.
@@ -96,14 +100,6 @@ impl Program {
         ensures valid { IfSome result (λ e. e < length self.now.instrs) }
     {
         self.handler(0)
-    }
-
-    /// How many instructions there are, 1 to 4,096.
-    pub fn count(&self) -> u16
-        ensures value { result ≡ length self.now.instrs }
-        ensures fits { (1 ≤ result) × (result ≤ 4096) }
-    {
-        self.instrs.len() as u16
     }
 
     /// That the program is valid, for a caller that needs it in a proof.
