@@ -1,5 +1,5 @@
 -- Where reading items stops, and what was read before.
-use Rattle.std.proofs.Common.{◌≡◌, ℕ, zero, suc, ◌+◌, ◌*◌, ◌-◌, ◌<◌, List, [], ◌∷◌, drop, Result, Ok, Err, refl, sym, ap, subst, ◌∙◌, arith}
+use Rattle.std.proofs.Common.{◌≡◌, ℕ, zero, suc, ◌+◌, ◌*◌, ◌-◌, ◌<◌, List, ◌∷◌, drop, Result, Ok, Err, refl, sym, ap, ◌∙◌, arith}
 use Rattle.std.proofs.lemmas.List.{drop-drop}
 use Rattle.kn_code.specs.declared.decoding.CodeFault.{CodeFault}
 use Rattle.kn_code.specs.Decoding.{◌>>=◌, items_from}
@@ -62,9 +62,11 @@ items_stop {X = X} step width (suc n) place bytes f e = go (items_stop step widt
   where
     rest : Result (List X) CodeFault
     rest = items_from step width n (place + width) (drop width bytes)
+
     further : (x : X) → (rest >>= λ others. Ok (x ∷ others)) ≡ Err f → (r : Result (List X) CodeFault) → rest ≡ r → rest ≡ Err f
     further x h (Ok xs) is = absurd (let wrong : Ok (x ∷ xs) ≡ Err f = sym (ap (λ (q : Result (List X) CodeFault). q >>= λ others. Ok (x ∷ others)) is) ∙ h in cc)
     further x h (Err g) is = is ∙ sym (ap (λ (q : Result (List X) CodeFault). q >>= λ others. Ok (x ∷ others)) is) ∙ h
+
     go : (rest ≡ Err f → StopsAt step width n (place + width) (drop width bytes) f) → (r : Result X CodeFault) → step n place bytes ≡ r → (r >>= λ first. rest >>= λ others. Ok (first ∷ others)) ≡ Err f → StopsAt step width (suc n) place bytes f
     go others (Err g) is h = record {
       index = 0;

@@ -1,5 +1,5 @@
 -- What is wrong where the reading of a handler's entry or of a row stops.
-use Rattle.std.proofs.Common.{◌≡◌, ◌≢◌, ◌⊎◌, ℕ, zero, suc, ◌+◌, ◌*◌, ◌^◌, ◌<◌, ◌≤◌, Bool, true, false, cond, eqb, ltb, not, List, [], ◌∷◌, get_or, drop, Option, Some, None, Result, Ok, Err, refl, sym, ap, subst, ◌∙◌, arith, inl, inr}
+use Rattle.std.proofs.Common.{◌≡◌, ◌≢◌, ℕ, suc, ◌+◌, ◌^◌, ◌<◌, Bool, true, false, cond, eqb, ltb, not, List, [], ◌∷◌, get_or, drop, Option, Some, None, Result, Ok, Err, refl, sym, ap, subst, ◌∙◌, arith}
 use Rattle.std.specs.Prelude.{◌&&◌}
 use Rattle.std.specs.Int.{w16, from_be_bytes}
 use Rattle.std.proofs.lemmas.Bool.{eqb-true, eq-eqb, lt-ltb, ltb-true, ltb-false}
@@ -11,10 +11,10 @@ use Rattle.kn_code.specs.declared.row.RowFault.{RowFault}
 use Rattle.kn_code.specs.declared.row.RowFault.TheVariants as RowFaults
 use Rattle.kn_code.specs.declared.decoding.CodeFault.{CodeFault}
 use Rattle.kn_code.specs.declared.decoding.CodeFault.TheVariants as faults
-use Rattle.kn_code.specs.Code.{IsInstr, Ends, Stands}
+use Rattle.kn_code.specs.Code.{IsInstr}
 use Rattle.kn_code.specs.Rows.{row_of_lem}
-use Rattle.kn_code.specs.Decoding.{checked_lem, is_reg, instr_of_lem, row_at_lem, names, handled, handler_at, instr_placed, instr_at, placed_lem}
-use Rattle.kn_code.specs.Faults.{word_at, row_here, IsWrongEntry, HasWrongOpcode, HasWrongField, HasWrongTarget, HasInstr, IsFirstFault}
+use Rattle.kn_code.specs.Decoding.{checked_lem, is_reg, instr_of_lem, row_at_lem, names, handled, handler_at, instr_placed, instr_at}
+use Rattle.kn_code.specs.Faults.{word_at, row_here, IsWrongEntry, HasWrongOpcode, HasWrongField, HasWrongTarget, HasInstr}
 use Rattle.kn_code.proofs.Readings.{IsBytes}
 use Rattle.kn_code.proofs.Fields.{placed_ok, or_row, instr_read, instr_again}
 
@@ -165,7 +165,7 @@ wrong_target count left r fits e =
       among = suc r.p;
       fits = read.1 fits;
       fields = read.0;
-      stray = λ stands. absurd (let wrong : Err RowFaults.Target ≡ Ok h.0 = sym e ∙ ap (instr_of_lem count (eqb left 0)) read.0 ∙ instr_again count (eqb left 0) h.0 stands.0 (λ t. stands.1 (eqb-true left 0 t)) in cc);
+      stray = λ i is stands. absurd (let wrong : Err RowFaults.Target ≡ Ok i = sym e ∙ ap (instr_of_lem count (eqb left 0)) is ∙ instr_again count (eqb left 0) i stands.0 (λ t. stands.1 (eqb-true left 0 t)) in cc);
     }
 
 -- ---- at a place of the bytes

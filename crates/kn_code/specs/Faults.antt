@@ -43,14 +43,14 @@ pub record HasWrongField (r : Row) : Type 0 where
   pub opcode : (row_of_lem instr).code ≡ r.code
   pub none : (i : Instr) (n : ℕ) → IsInstr n i → r ≢ row_of_lem i
 
--- an instruction has these fields, but it does not stand here: its target is not below the number of instructions, or
--- it may not be the last
+-- an instruction has these fields, but none that has them stands here: its target is not below the number of
+-- instructions, or it may not be the last
 pub record HasWrongTarget (count left : ℕ) (r : Row) : Type 0 where
   pub instr : Instr
   pub among : ℕ
   pub fits : IsInstr among instr
   pub fields : r ≡ row_of_lem instr
-  pub stray : Stands count left instr → ⊥
+  pub stray : (i : Instr) → r ≡ row_of_lem i → Stands count left i → ⊥
 
 -- a row is an instruction's that stands there
 pub record HasInstr (count left : ℕ) (r : Row) : Type 0 where
@@ -85,4 +85,9 @@ IsFirstFault bytes (faults.Handler place) = IsAtHandler bytes place
 IsFirstFault bytes (faults.Opcode place) = IsAtInstr bytes place (λ count left r. HasWrongOpcode r)
 IsFirstFault bytes (faults.Field place) = IsAtInstr bytes place (λ count left r. HasWrongField r)
 IsFirstFault bytes (faults.Target place) = IsAtInstr bytes place (λ count left r. HasWrongTarget count left r)
-IsFirstFault bytes (faults.Memory e) = Unit {0}
+IsFirstFault bytes (faults.Memory e) = ⊥
+
+-- a fact of a fault of the bytes
+abbrev pub UnlessMemory : CodeFault → Type 0 → Type 0
+UnlessMemory (faults.Memory e) P = Unit {0}
+UnlessMemory other P = P

@@ -1,5 +1,5 @@
 -- The rows of instructions, and the one spelling of a program.
-use Rattle.std.specs.Prelude.{ℕ, List, [], ◌∷◌, ◌++◌, length, Option, unwrap_or}
+use Rattle.std.specs.Prelude.{ℕ, List, ◌∷◌, ◌++◌, length, Option, unwrap_or}
 use Rattle.std.specs.List.{flat_map}
 use Rattle.std.specs.Int.{w16, to_be_bytes}
 use Rattle.kn_code.specs.declared.program.Instr.{Instr}

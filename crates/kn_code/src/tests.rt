@@ -120,7 +120,12 @@ fn a_row_before_halt(rt: HostRuntime) -> Result<(), Fail> {
     ] {
         let bytes = bytes_of(rt.alloc(), 2, 0, &[row, HALT])?;
         let place = if want == '-' { 0 } else { 22 };
-        assert_eq!(rt; answer(decode(rt.alloc(), &bytes)), (want, place), "row {}", row[0]);
+        assert_eq!(rt;
+            answer(decode(rt.alloc(), &bytes)),
+            (want, place),
+            "row {}",
+            row[0]
+        );
     }
     Ok(())
 }
