@@ -1,1 +1,9 @@
+pub mod Items
 pub mod Valid
+pub mod Readings
+pub mod Fields
+pub mod Whole
+pub mod Equal
+pub mod Stops
+pub mod Wrong
+pub mod First

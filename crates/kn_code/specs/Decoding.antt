@@ -1,0 +1,112 @@
+-- Reading a program from left to right, with the first fault that is met.
+use Rattle.std.specs.Prelude.{Bool, true, ◌≡◌, ℕ, zero, suc, ◌+◌, ◌*◌, ◌&&◌, not, List, [], ◌∷◌, length, drop, Option, Some, None, Ok, Err, ◌==◌, nat_lt, if◌then◌else◌, slice_index}
+use Rattle.std.specs.declared.result.Result.{Result}
+use Rattle.std.specs.Int.{w16, from_be_bytes}
+use Rattle.kn_code.specs.declared.program.Instr.{Instr}
+use Rattle.kn_code.specs.declared.program.Instr.TheVariants.{Const, Brz, Input, Assert, Ret, Halt}
+use Rattle.kn_code.specs.declared.row.Row.{Row}
+use Rattle.kn_code.specs.declared.row.RowFault.{RowFault}
+use Rattle.kn_code.specs.declared.row.RowFault.TheVariants as rows
+use Rattle.kn_code.specs.declared.decoding.CodeFault.{CodeFault}
+use Rattle.kn_code.specs.declared.decoding.CodeFault.TheVariants as faults
+use Rattle.kn_code.specs.Code.{Code}
+
+infixl 10 ◌>>=◌
+abbrev pub ◌>>=◌ : {A B : Type 0} → Result A CodeFault → (A → Result B CodeFault) → Result B CodeFault
+(Ok x) >>= f = f x
+(Err e) >>= f = Err e
+
+-- What a function returned, seen by view, is what reading gives, unless memory ran out.
+abbrev pub Fails : {Y : Type 0} → CodeFault → Result Y CodeFault → Type 0
+Fails (faults.Length place) read = read ≡ Err (faults.Length place)
+Fails (faults.Handler place) read = read ≡ Err (faults.Handler place)
+Fails (faults.Opcode place) read = read ≡ Err (faults.Opcode place)
+Fails (faults.Field place) read = read ≡ Err (faults.Field place)
+Fails (faults.Target place) read = read ≡ Err (faults.Target place)
+Fails (faults.Memory e) read = Unit {0}
+
+abbrev pub Gives : {X Y : Type 0} → (X → Y) → Result X CodeFault → Result Y CodeFault → Type 0
+Gives view (Ok x) read = read ≡ Ok (view x)
+Gives view (Err e) read = Fails e read
+
+-- so many items of a width, one after another, each read with how many come after it and its place
+unfoldable pub items_from : {X : Type 0} → (ℕ → ℕ → List ℕ → Result X CodeFault) → ℕ → ℕ → ℕ → List ℕ → Result (List X) CodeFault
+items_from step width zero place bytes = Ok []
+items_from step width (suc left) place bytes = do
+  first ← step left place bytes
+  others ← items_from step width left (place + width) (drop width bytes)
+  Ok (first ∷ others)
+
+abbrev pub entry_at_lem : List ℕ → Option ℕ
+entry_at_lem bytes =
+    let entry = from_be_bytes w16 (slice_index bytes 0 ∷ slice_index bytes 1 ∷ []) in
+    if entry == 65535 then None else Some entry
+
+abbrev pub names : ℕ → Option ℕ → Result (Option ℕ) ℕ
+names count None = Ok None
+names count (Some e) = if nat_lt e count then Ok (Some e) else Err e
+
+abbrev pub handled : ℕ → Result (Option ℕ) ℕ → Result (Option ℕ) CodeFault
+handled place (Ok entry) = Ok entry
+handled place (Err entry) = Err (faults.Handler place)
+
+-- a handler's entry is none or an instruction's index
+unfoldable pub handler_at : ℕ → ℕ → ℕ → List ℕ → Result (Option ℕ) CodeFault
+handler_at count left place bytes = handled place (names count (entry_at_lem bytes))
+
+-- the opcode is known; then the fields are tested, then the target
+abbrev pub checked_lem : Bool → Bool → Instr → Result Instr RowFault
+checked_lem fields target i = if fields then (if target then Ok i else Err rows.Target) else Err rows.Field
+
+-- a register in field a alone
+abbrev pub is_reg : Row → Bool
+is_reg r = nat_lt r.a 16 && (r.b == 0) && (r.c == 0)
+
+-- The instruction of a row among so many, and whether it is the last one. An opcode without a row here is unknown.
+abbrev pub instr_of_lem : ℕ → Bool → Row → Result Instr RowFault
+instr_of_lem count last r =
+    if r.code == 0x01 then checked_lem (is_reg r && (r.q == 0)) (not last) (Const r.a r.p)
+    else (if r.code == 0x09 then checked_lem (is_reg r && (r.q == 0)) (nat_lt r.p count && not last) (Brz r.a r.p)
+    else (if r.code == 0x0a then checked_lem (is_reg r && (r.p == 1) && (r.q == 0)) (not last) (Input r.a r.p)
+    else (if r.code == 0x20 then checked_lem (is_reg r && (r.p == 0) && (r.q == 0)) (not last) (Assert r.a)
+    else (if r.code == 0x23 then checked_lem (is_reg r && (r.a == 0) && (r.p == 0) && (r.q == 0)) true Ret
+    else (if r.code == 0x24 then checked_lem (is_reg r && (r.a == 0) && (r.p == 0) && (r.q == 0)) true Halt
+    else Err rows.Opcode)))))
+
+-- the row that stands at a place
+abbrev pub row_at_lem : List ℕ → ℕ → Row
+row_at_lem bytes at = record {
+  code = slice_index bytes at;
+  a = slice_index bytes (at + 1);
+  b = slice_index bytes (at + 2);
+  c = slice_index bytes (at + 3);
+  p = from_be_bytes w16 (slice_index bytes (at + 4) ∷ slice_index bytes (at + 5) ∷ []);
+  q = from_be_bytes w16 (slice_index bytes (at + 6) ∷ slice_index bytes (at + 7) ∷ []);
+}
+
+abbrev pub placed_lem : RowFault → ℕ → CodeFault
+placed_lem rows.Opcode place = faults.Opcode place
+placed_lem rows.Field place = faults.Field place
+placed_lem rows.Target place = faults.Target place
+
+abbrev pub instr_placed : ℕ → Result Instr RowFault → Result Instr CodeFault
+instr_placed place (Ok i) = Ok i
+instr_placed place (Err f) = Err (placed_lem f place)
+
+unfoldable pub instr_at : ℕ → ℕ → ℕ → List ℕ → Result Instr CodeFault
+instr_at count left place bytes = instr_placed place (instr_of_lem count (left == 0) (row_at_lem bytes 0))
+
+abbrev pub count_of : List ℕ → ℕ
+count_of bytes = from_be_bytes w16 (slice_index bytes 0 ∷ slice_index bytes 1 ∷ [])
+
+abbrev pub has_length : List ℕ → ℕ → ℕ → Bool
+has_length bytes len count = not (nat_lt len 22) && not (count == 0) && not (nat_lt 4096 count) && (len == 22 + 8 * count)
+
+-- all of the bytes: the length first, then the handlers, then the instructions
+unfoldable pub code_at : List ℕ → Result Code CodeFault
+code_at bytes =
+    if has_length bytes (length bytes) (count_of bytes) then (do
+      handlers ← items_from (handler_at (count_of bytes)) 2 10 2 (drop 2 bytes)
+      instrs ← items_from (instr_at (count_of bytes)) 8 (count_of bytes) 22 (drop 22 bytes)
+      Ok (record { instrs = instrs; handlers = handlers }))
+    else Err (faults.Length (length bytes))
