@@ -1,5 +1,5 @@
 -- The laws of the model, as statements.
-use Rattle.std.specs.Prelude.{◌≡◌, ◌≢◌, ℕ, ◌<◌, ◌≤◌, Bool, true, false, ◌⊎◌, List, [], ◌∷◌, length, map, filter, flat_map, Contains, Some, None, slice_get}
+use Rattle.std.specs.Prelude.{◌≡◌, ◌≢◌, ℕ, ◌<◌, ◌≤◌, Bool, true, false, ◌⊎◌, List, [], ◌∷◌, ◌++◌, length, map, filter, flat_map, Contains, Some, None, slice_get}
 use Rattle.std.specs.List.{AllByRecursion}
 use Rattle.kn_code.specs.declared.program.Instr.{Instr}
 use Rattle.kn_code.specs.declared.program.Instr.TheVariants as instrs
@@ -12,7 +12,8 @@ use Rattle.kn_model.specs.Nets.{Network, Link}
 use Rattle.kn_model.specs.Due.{due, left}
 use Rattle.kn_model.specs.Paths.{Path, event_paths}
 use Rattle.kn_model.specs.Scenarios.{Scenario, name_of, cob, copies, finish, receive, node_at, settled}
-use Rattle.kn_model.specs.Conditions.{holds}
+use Rattle.kn_model.specs.Conditions.{Condition, holds, that, that_with, IsImpossible, IsLeast}
+use Rattle.kn_model.specs.Deciding.{IsPlain, clashes, forced}
 use Rattle.kn_model.specs.Concrete.{concrete, scenario_under, path_under, state_under}
 use Rattle.kn_model.specs.Replays.{node_of, own_of}
 use Rattle.kn_model.specs.Alikes.{seen}
@@ -123,3 +124,15 @@ ReceivingCommutes = (a b i : ℕ) (ps qs : List (Parcel Term)) (y : Node Term) �
 abbrev pub SettledIsDone : Type 0
 SettledIsDone = (net : Network) (n t : ℕ) (s : Scenario Term) → IsNet net → n < length s.nodes
     → AllByRecursion (λ (u : Scenario Term). due net.limits.ticks t (node_at terms u n).state ≡ None) (settled terms net t n s)
+
+-- A condition that clashes is met by no inputs.
+abbrev pub ClashIsImpossible : Type 0
+ClashIsImpossible = (c : Condition) → clashes c ≡ true → IsImpossible (that c)
+
+-- Of a condition on constants and inputs of one bit that does not clash, the inputs that it forces to be 1 are the least that meet it.
+abbrev pub ForcedIsLeast : Type 0
+ForcedIsLeast = (c : Condition) → IsPlain c → clashes c ≡ false → IsLeast (that c) (forced c)
+
+-- Columns of one alternative each ask the same of the inputs as one condition that joins them.
+abbrev pub JoinedIsOne : Type 0
+JoinedIsOne = (c : Condition) (ds : List Condition) → that_with c (map (λ (d : Condition). d ∷ []) ds) ≡ that (c ++ flat_map (λ (d : Condition). d) ds)
