@@ -1,6 +1,7 @@
 -- The laws of the model, as statements.
 use Rattle.std.specs.Prelude.{◌≡◌, ◌≢◌, ℕ, ◌<◌, ◌≤◌, Bool, true, false, ◌⊎◌, List, [], ◌∷◌, ◌++◌, length, map, filter, flat_map, Contains, Some, None, slice_get}
 use Rattle.std.specs.List.{AllByRecursion}
+use Rattle.std.specs.Cmp.Lexicographic.{slice_cmp}
 use Rattle.kn_code.specs.declared.program.Instr.{Instr}
 use Rattle.kn_code.specs.declared.program.Instr.TheVariants as instrs
 use Rattle.kn_code.specs.Code.{Code}
@@ -15,6 +16,7 @@ use Rattle.kn_model.specs.Scenarios.{Scenario, name_of, cob, copies, finish, rec
 use Rattle.kn_model.specs.Conditions.{Condition, holds, that, that_with, IsImpossible, IsLeast}
 use Rattle.kn_model.specs.Deciding.{IsPlain, clashes, forced}
 use Rattle.kn_model.specs.Concrete.{concrete, scenario_under, path_under, state_under}
+use Rattle.kn_model.specs.Reports.{Rises, trace_cmp, ends}
 use Rattle.kn_model.specs.Replays.{node_of, own_of}
 use Rattle.kn_model.specs.Alikes.{seen}
 use Rattle.kn_model.specs.Picks.{SameItems}
@@ -61,6 +63,19 @@ abbrev pub AreApart : List (List Bool) → Type 0
 AreApart [] = Unit {0}
 AreApart (x ∷ xs) = AllByRecursion (Apart x) xs × AreApart xs
 
+-- two lists of bits differ at a place that both have, and there the first has 0
+abbrev pub Before : List Bool → List Bool → Type 0
+Before [] ys = ⊥
+Before (x ∷ xs) [] = ⊥
+Before (false ∷ xs) (false ∷ ys) = Before xs ys
+Before (false ∷ xs) (true ∷ ys) = Unit {0}
+Before (true ∷ xs) (false ∷ ys) = ⊥
+Before (true ∷ xs) (true ∷ ys) = Before xs ys
+
+abbrev pub AreBefore : List (List Bool) → Type 0
+AreBefore [] = Unit {0}
+AreBefore (x ∷ xs) = AllByRecursion (Before x) xs × AreBefore xs
+
 -- two names are apart at some node
 abbrev pub NamesApart : List (List Bool) → List (List Bool) → Type 0
 NamesApart [] ys = ⊥
@@ -73,6 +88,10 @@ AllNamesApart (x ∷ xs) = AllByRecursion (NamesApart x) xs × AllNamesApart xs
 
 abbrev pub DistinctNames : Type 0
 DistinctNames = (net : Network) (t : ℕ) → IsNet net → AllNamesApart (map name_of (cob terms net t))
+
+-- In a network of at most one tick the names come in their order: node after node, and each trace bit by bit.
+abbrev pub NamesRise : Type 0
+NamesRise = (net : Network) → IsNet net → net.limits.ticks ≤ 1 → Rises (slice_cmp trace_cmp) (map name_of (ends net))
 
 -- A node of a scenario is what its history makes.
 abbrev pub HistoriesTell : Type 0
@@ -101,6 +120,10 @@ SendsLater = (net : Network) (n t : ℕ) (e : Event) (s : State Term) → IsNet 
 -- Of two paths of an event the bits differ at a place that both have.
 abbrev pub PathsApart : Type 0
 PathsApart = (net : Network) (n t : ℕ) (e : Event) (s : State Term) → IsNet net → AreApart (map (λ (p : Path Term). p.bits) (event_paths terms net n t e s))
+
+-- And there the earlier one has 0.
+abbrev pub PathsInOrder : Type 0
+PathsInOrder = (net : Network) (n t : ℕ) (e : Event) (s : State Term) → IsNet net → AreBefore (map (λ (p : Path Term). p.bits) (event_paths terms net n t e s))
 
 -- The paths of an event whose literals hold under the inputs are the paths over words.
 abbrev pub EventsCovered : Type 0
