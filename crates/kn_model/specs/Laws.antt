@@ -16,7 +16,7 @@ use Rattle.kn_model.specs.Scenarios.{Scenario, name_of, cob, copies, finish, rec
 use Rattle.kn_model.specs.Conditions.{Condition, holds, that, that_with, IsImpossible, IsLeast}
 use Rattle.kn_model.specs.Deciding.{IsPlain, clashes, forced}
 use Rattle.kn_model.specs.Concrete.{concrete, scenario_under, path_under, state_under}
-use Rattle.kn_model.specs.Reports.{Rises, trace_cmp, ends}
+use Rattle.kn_model.specs.Reports.{Rises, trace_cmp, ends, pick_condition}
 use Rattle.kn_model.specs.Replays.{node_of, own_of}
 use Rattle.kn_model.specs.Alikes.{seen}
 use Rattle.kn_model.specs.Picks.{SameItems}
@@ -99,7 +99,15 @@ HistoriesTell = (net : Network) (t n : ℕ) (s : Scenario Term) (y : Node Term) 
 
 -- A scenario's condition implies each node's own condition; a history's own condition implies that of each history that it begins with.
 abbrev pub OwnImplied : Type 0
-OwnImplied = (net : Network) (a : Valuation) (t : ℕ) (s : Scenario Term) (y : Node Term) → Contains (cob terms net t) s → Contains s.nodes y → holds a s.condition ≡ true → holds a y.state.own ≡ true
+OwnImplied = (net : Network) (a : Valuation) (t : ℕ) (s : Scenario Term) (y : Node Term) → IsNet net → Contains (cob terms net t) s → Contains s.nodes y → holds a s.condition ≡ true → holds a y.state.own ≡ true
+
+-- And it asks no more than the own conditions of all nodes together.
+abbrev pub ConditionIsOwn : Type 0
+ConditionIsOwn = (net : Network) (a : Valuation) (t : ℕ) (s : Scenario Term) → IsNet net → Contains (cob terms net t) s → holds a s.condition ≡ holds a (pick_condition s.nodes)
+
+-- So the run on inputs that meet the own conditions of a member's nodes ends as this member.
+abbrev pub EndsAsMember : Type 0
+EndsAsMember = (net : Network) (a : Valuation) (t : ℕ) (s : Scenario Term) → IsNet net → Contains (cob terms net t) s → holds a (pick_condition s.nodes) ≡ true → concrete net a t ≡ scenario_under a s ∷ []
 
 abbrev pub BeginningImplied : Type 0
 BeginningImplied = (net : Network) (a : Valuation) (n : ℕ) (h more : History) → holds a (own_of net n (followed h more)) ≡ true → holds a (own_of net n h) ≡ true
