@@ -15,10 +15,10 @@ use Rattle.kn_model.specs.Deciding.{IsPlain, IsPlainTerm, is_false, is_false_on,
 use Rattle.kn_model.proofs.Clashing.{both, either, neither, on}
 
 -- the place of an input, node and index, is before that of another
-abbrev Under : (n k m j : ℕ) → Type 0
+abbrev pub Under : (n k m j : ℕ) → Type 0
 Under n k m j = (n < m) ⊎ ((n ≡ m) × (k < j))
 
-under_on : (n k m j p q : ℕ) → Under n k m j → Under m j p q → Under n k p q
+pub under_on : (n k m j p q : ℕ) → Under n k m j → Under m j p q → Under n k p q
 under_on n k m j p q (inl h) (inl i) = inl (omega (arith, h, i))
 under_on n k m j p q (inl h) (inr i) = let e = i.0 in inl (omega (arith, h, e))
 under_on n k m j p q (inr h) (inl i) = let e = h.0 in inl (omega (arith, e, i))
@@ -62,12 +62,12 @@ order x y = go (nat_lt x y) refl (nat_eq x y) refl
     go false h true i = eqb-true x y i
     go false h false i = let le = ltb-false x y h in let ne = eqb-false x y i in omega (arith, le, ne)
 
-abbrev Place : Ordering → Read → Read → Type 0
+abbrev pub Place : Ordering → Read → Read → Type 0
 Place Less r s = Under r.node r.index s.node s.index
 Place Equal r s = (r.node ≡ s.node) × (r.index ≡ s.index)
 Place Greater r s = Under s.node s.index r.node r.index
 
-place : (r s : Read) → Place (read_cmp r s) r s
+pub place : (r s : Read) → Place (read_cmp r s) r s
 place r s = go (nat_cmp r.node s.node) (order r.node s.node) (nat_cmp r.index s.index) (order r.index s.index)
   where
     go : (o : Ordering) → Order o r.node s.node → (p : Ordering) → Order p r.index s.index → Place (ordering_then o p) r s
