@@ -1,8 +1,8 @@
 -- How conditions on constants and one-bit inputs are decided, literal by literal.
-use Rattle.std.specs.Prelude.{◌≡◌, ℕ, Bool, true, false, not, ◌&&◌, ◌||◌, nat_eq, nat_lt, if◌then◌else◌, List, [], ◌∷◌, ◌++◌, flat_map}
+use Rattle.std.specs.Prelude.{◌≡◌, ℕ, Bool, true, false, not, ◌&&◌, ◌||◌, nat_eq, nat_lt, if◌then◌else◌, List, [], ◌∷◌, flat_map}
 use Rattle.std.specs.List.{AllByRecursion}
 use Rattle.kn_model.specs.Values.{Literal}
-use Rattle.kn_model.specs.Terms.{Term, Word, Input, Apply, Choice, Given, Valuation, word_holds}
+use Rattle.kn_model.specs.Terms.{Term, Word, Input, Apply, Choice, Valuation, word_holds}
 use Rattle.kn_model.specs.Nodes.{State}
 use Rattle.kn_model.specs.Conditions.{Condition}
 

@@ -1,6 +1,7 @@
 -- The laws of the model, as statements.
-use Rattle.std.specs.Prelude.{◌≡◌, ◌≢◌, ℕ, ◌<◌, ◌≤◌, Bool, true, false, ◌⊎◌, List, [], ◌∷◌, length, map, filter, flat_map, Contains, Some, None, slice_get}
+use Rattle.std.specs.Prelude.{◌≡◌, ◌≢◌, ℕ, ◌<◌, ◌≤◌, Bool, true, false, ◌⊎◌, List, [], ◌∷◌, ◌++◌, length, map, filter, flat_map, Contains, Some, None, slice_get}
 use Rattle.std.specs.List.{AllByRecursion}
+use Rattle.std.specs.Cmp.Lexicographic.{slice_cmp}
 use Rattle.kn_code.specs.declared.program.Instr.{Instr}
 use Rattle.kn_code.specs.declared.program.Instr.TheVariants as instrs
 use Rattle.kn_code.specs.Code.{Code}
@@ -12,8 +13,10 @@ use Rattle.kn_model.specs.Nets.{Network, Link}
 use Rattle.kn_model.specs.Due.{due, left}
 use Rattle.kn_model.specs.Paths.{Path, event_paths}
 use Rattle.kn_model.specs.Scenarios.{Scenario, name_of, cob, copies, finish, receive, node_at, settled}
-use Rattle.kn_model.specs.Conditions.{holds}
+use Rattle.kn_model.specs.Conditions.{Condition, holds, that, that_with, IsImpossible, IsLeast}
+use Rattle.kn_model.specs.Deciding.{IsPlain, clashes, forced}
 use Rattle.kn_model.specs.Concrete.{concrete, scenario_under, path_under, state_under}
+use Rattle.kn_model.specs.Reports.{Rises, trace_cmp, ends, pick_condition}
 use Rattle.kn_model.specs.Replays.{node_of, own_of}
 use Rattle.kn_model.specs.Alikes.{seen}
 use Rattle.kn_model.specs.Picks.{SameItems}
@@ -60,6 +63,19 @@ abbrev pub AreApart : List (List Bool) → Type 0
 AreApart [] = Unit {0}
 AreApart (x ∷ xs) = AllByRecursion (Apart x) xs × AreApart xs
 
+-- two lists of bits differ at a place that both have, and there the first has 0
+abbrev pub Before : List Bool → List Bool → Type 0
+Before [] ys = ⊥
+Before (x ∷ xs) [] = ⊥
+Before (false ∷ xs) (false ∷ ys) = Before xs ys
+Before (false ∷ xs) (true ∷ ys) = Unit {0}
+Before (true ∷ xs) (false ∷ ys) = ⊥
+Before (true ∷ xs) (true ∷ ys) = Before xs ys
+
+abbrev pub AreBefore : List (List Bool) → Type 0
+AreBefore [] = Unit {0}
+AreBefore (x ∷ xs) = AllByRecursion (Before x) xs × AreBefore xs
+
 -- two names are apart at some node
 abbrev pub NamesApart : List (List Bool) → List (List Bool) → Type 0
 NamesApart [] ys = ⊥
@@ -73,13 +89,25 @@ AllNamesApart (x ∷ xs) = AllByRecursion (NamesApart x) xs × AllNamesApart xs
 abbrev pub DistinctNames : Type 0
 DistinctNames = (net : Network) (t : ℕ) → IsNet net → AllNamesApart (map name_of (cob terms net t))
 
+-- In a network of at most one tick the names come in their order: node after node, and each trace bit by bit.
+abbrev pub NamesRise : Type 0
+NamesRise = (net : Network) → IsNet net → net.limits.ticks ≤ 1 → Rises (slice_cmp trace_cmp) (map name_of (ends net))
+
 -- A node of a scenario is what its history makes.
 abbrev pub HistoriesTell : Type 0
 HistoriesTell = (net : Network) (t n : ℕ) (s : Scenario Term) (y : Node Term) → IsNet net → Contains (cob terms net t) s → slice_get s.nodes n ≡ Some y → node_of terms net n y.history ≡ y
 
 -- A scenario's condition implies each node's own condition; a history's own condition implies that of each history that it begins with.
 abbrev pub OwnImplied : Type 0
-OwnImplied = (net : Network) (a : Valuation) (t : ℕ) (s : Scenario Term) (y : Node Term) → Contains (cob terms net t) s → Contains s.nodes y → holds a s.condition ≡ true → holds a y.state.own ≡ true
+OwnImplied = (net : Network) (a : Valuation) (t : ℕ) (s : Scenario Term) (y : Node Term) → IsNet net → Contains (cob terms net t) s → Contains s.nodes y → holds a s.condition ≡ true → holds a y.state.own ≡ true
+
+-- And it asks no more than the own conditions of all nodes together.
+abbrev pub ConditionIsOwn : Type 0
+ConditionIsOwn = (net : Network) (a : Valuation) (t : ℕ) (s : Scenario Term) → IsNet net → Contains (cob terms net t) s → holds a s.condition ≡ holds a (pick_condition s.nodes)
+
+-- So the run on inputs that meet the own conditions of a member's nodes ends as this member.
+abbrev pub EndsAsMember : Type 0
+EndsAsMember = (net : Network) (a : Valuation) (t : ℕ) (s : Scenario Term) → IsNet net → Contains (cob terms net t) s → holds a (pick_condition s.nodes) ≡ true → concrete net a t ≡ scenario_under a s ∷ []
 
 abbrev pub BeginningImplied : Type 0
 BeginningImplied = (net : Network) (a : Valuation) (n : ℕ) (h more : History) → holds a (own_of net n (followed h more)) ≡ true → holds a (own_of net n h) ≡ true
@@ -100,6 +128,10 @@ SendsLater = (net : Network) (n t : ℕ) (e : Event) (s : State Term) → IsNet 
 -- Of two paths of an event the bits differ at a place that both have.
 abbrev pub PathsApart : Type 0
 PathsApart = (net : Network) (n t : ℕ) (e : Event) (s : State Term) → IsNet net → AreApart (map (λ (p : Path Term). p.bits) (event_paths terms net n t e s))
+
+-- And there the earlier one has 0.
+abbrev pub PathsInOrder : Type 0
+PathsInOrder = (net : Network) (n t : ℕ) (e : Event) (s : State Term) → IsNet net → AreBefore (map (λ (p : Path Term). p.bits) (event_paths terms net n t e s))
 
 -- The paths of an event whose literals hold under the inputs are the paths over words.
 abbrev pub EventsCovered : Type 0
@@ -123,3 +155,15 @@ ReceivingCommutes = (a b i : ℕ) (ps qs : List (Parcel Term)) (y : Node Term) �
 abbrev pub SettledIsDone : Type 0
 SettledIsDone = (net : Network) (n t : ℕ) (s : Scenario Term) → IsNet net → n < length s.nodes
     → AllByRecursion (λ (u : Scenario Term). due net.limits.ticks t (node_at terms u n).state ≡ None) (settled terms net t n s)
+
+-- A condition that clashes is met by no inputs.
+abbrev pub ClashIsImpossible : Type 0
+ClashIsImpossible = (c : Condition) → clashes c ≡ true → IsImpossible (that c)
+
+-- Of a condition on constants and inputs of one bit that does not clash, the inputs that it forces to be 1 are the least that meet it.
+abbrev pub ForcedIsLeast : Type 0
+ForcedIsLeast = (c : Condition) → IsPlain c → clashes c ≡ false → IsLeast (that c) (forced c)
+
+-- Columns of one alternative each ask the same of the inputs as one condition that joins them.
+abbrev pub JoinedIsOne : Type 0
+JoinedIsOne = (c : Condition) (ds : List Condition) → that_with c (map (λ (d : Condition). d ∷ []) ds) ≡ that (c ++ flat_map (λ (d : Condition). d) ds)

@@ -23,3 +23,4 @@ pub mod WorkedParts
 pub mod WorkedTree
 pub mod WorkedReport
 pub mod WorkedChain
+pub mod WorkedOneTick
