@@ -88,14 +88,6 @@ own s = s.own
 joined-append : (ss ts : List (State Term)) → joined (ss ++ ts) ≡ joined ss ++ joined ts
 joined-append ss ts = flat_map-append own ss ts
 
--- the order in which own conditions are joined makes no difference
-joined_in_order : (a : Valuation) (before : List (State Term)) (s : State Term) (after : List (State Term)) → holds a (s.own ++ joined (before ++ after)) ≡ true → holds a (joined (before ++ (s ∷ after))) ≡ true
-joined_in_order a before s after h =
-    let two = both_true (holds a s.own) (holds a (joined (before ++ after))) (sym (holds-append a s.own (joined (before ++ after))) ∙ h) in
-    let parts = both_true (holds a (joined before)) (holds a (joined after)) (sym (ap (holds a) (joined-append before after) ∙ holds-append a (joined before) (joined after)) ∙ two.1) in
-    let rest : holds a (joined (s ∷ after)) ≡ true = ap (holds a) (flat_map-cons own s after) ∙ (holds-append a s.own (joined after) ∙ and_true (holds a s.own) (holds a (joined after)) two.0 parts.1) in
-    ap (holds a) (joined-append before (s ∷ after)) ∙ (holds-append a (joined before) (joined (s ∷ after)) ∙ and_true (holds a (joined before)) (holds a (joined (s ∷ after))) parts.0 rest)
-
 abbrev node_own : Node Term → Condition
 node_own y = y.state.own
 
@@ -145,8 +137,10 @@ bool_same false = refl
 -- How plain conditions of whole scenarios are decided.
 pub record Decides : Type 0 where
   pub least : (c : Condition) → IsPlain c → clashes c ≡ false → IsLeast (that c) (forced c)
-  pub joint_least : (c : Condition) (ss : List (State Term)) → IsPlain (c ++ joined ss) → clashes (c ++ joined ss) ≡ false → IsLeast (that_with c (map alternative ss)) (forced (c ++ joined ss))
-  pub joint_never : (c : Condition) (ss : List (State Term)) → clashes (c ++ joined ss) ≡ true → IsImpossible (that_with c (map alternative ss))
+  -- a state's own condition, with those of the states before and after it
+  pub joint_least : (before : List (State Term)) (s : State Term) (after : List (State Term)) → IsPlain (joined (before ++ (s ∷ after))) → clashes (joined (before ++ (s ∷ after))) ≡ false
+      → IsLeast (that_with s.own (map alternative (before ++ after))) (forced (joined (before ++ (s ∷ after))))
+  pub joint_never : (before : List (State Term)) (s : State Term) (after : List (State Term)) → clashes (joined (before ++ (s ∷ after))) ≡ true → IsImpossible (that_with s.own (map alternative (before ++ after)))
 
 module _ (net : Network) (ms : List (Scenario Term)) (h : IsListing net ms) (decides : Decides) where
   abbrev R : Report
@@ -280,25 +274,22 @@ module _ (net : Network) (ms : List (Scenario Term)) (h : IsListing net ms) (dec
           query = refl;
         }
 
+    -- its whole scenario
+    abbrev all : List (State Term)
+    all = before ++ (this ∷ after)
+
     -- all own conditions of its scenario are plain
-    plain_whole : IsPlain (this.own ++ joined others)
+    plain_whole : IsPlain (joined all)
     plain_whole =
         let nodes = all_at (λ (s : Scenario Term). AllByRecursion (λ (y : Node Term). IsPlain y.state.own) s.nodes) ms f.d f.kept.scenario h.plain f.kept.member in
-        let states : AllByRecursion (λ (s : State Term). IsPlain s.own) (before ++ (this ∷ after)) =
-            subst (AllByRecursion (λ (s : State Term). IsPlain s.own)) split (all_mapped (λ (y : Node Term). IsPlain y.state.own) (λ (s : State Term). IsPlain s.own) state (λ y p. p) f.kept.scenario.nodes nodes) in
-        let parts = all_split (λ (s : State Term). IsPlain s.own) before (this ∷ after) states in
-        plain_append this.own (joined others) parts.1.0 (plain_joined others (all_join (λ (s : State Term). IsPlain s.own) before after parts.0 parts.1.1))
+        plain_joined all (subst (AllByRecursion (λ (s : State Term). IsPlain s.own)) split (all_mapped (λ (y : Node Term). IsPlain y.state.own) (λ (s : State Term). IsPlain s.own) state (λ y p. p) f.kept.scenario.nodes nodes))
 
-    run_shows : (a : Valuation) → RunShows R (numbers M first) (scenario_under a f.kept.scenario).nodes
-    run_shows a = run_shown R a (numbers M first) f.kept.scenario.nodes (shows_kept net ms h f.d f.columns f.kept)
-
-    reached : clashes (this.own ++ joined others) ≡ false → IsReached net R i f.d (numbers M first) (forced (this.own ++ joined others))
+    reached : clashes (joined all) ≡ false → IsReached net R i f.d (numbers M first) (forced (joined all))
     reached sure =
-        let c = this.own ++ joined others in
-        let a = forced c in
-        let own_least = decides.least c plain_whole sure in
-        let meets : holds a c ≡ true = ap (λ (b : Valuation). holds b c) own_least.is ∙ own_least.meet.1 in
-        let whole : holds a (pick_condition f.kept.scenario.nodes) ≡ true = ap (holds a) (pick_is_joined f.kept.scenario.nodes ∙ ap joined split) ∙ joined_in_order a before this after meets in
+        let a = forced (joined all) in
+        let own_least = decides.least (joined all) plain_whole sure in
+        let meets : holds a (joined all) ≡ true = ap (λ (b : Valuation). holds b (joined all)) own_least.is ∙ own_least.meet.1 in
+        let whole : holds a (pick_condition f.kept.scenario.nodes) ≡ true = ap (holds a) (pick_is_joined f.kept.scenario.nodes ∙ ap joined split) ∙ meets in
         let less : f.n < M = (let here = get_less f.kept.scenario.nodes f.n f.node f.there in omega (arith, here, f.kept.whole)) in
         record {
           picked = is_pick net ms h f.d f.columns f.kept;
@@ -308,18 +299,18 @@ module _ (net : Network) (ms : List (Scenario Term)) (h : IsListing net ms) (dec
           meets = whole;
           query = that_with this.own (map alternative others);
           is_query = is_query;
-          least = decides.joint_least this.own others plain_whole sure;
+          least = decides.joint_least before this after plain_whole sure;
           run = scenario_under a f.kept.scenario;
           concrete_run = h.runs f.kept.scenario a (is_member net ms h f.d f.columns f.kept) whole;
-          shows = run_shows a;
+          shows = run_shown R a (numbers M first) f.kept.scenario.nodes (shows_kept net ms h f.d f.columns f.kept);
           earlier = λ e q less asked. let same = (query_is e q asked).0 in absurd (omega (arith, same, less));
         }
 
-    pub reach_is : ReachIs net R i (reach_of M f.d first (this.own ++ joined others))
-    reach_is = go (clashes (this.own ++ joined others)) refl
+    pub reach_is : ReachIs net R i (reach_of M f.d first (joined all))
+    reach_is = go (clashes (joined all)) refl
       where
-        go : (b : Bool) → clashes (this.own ++ joined others) ≡ b → ReachIs net R i (cond b Nowhere (At f.d (numbers M first) (forced (this.own ++ joined others))))
-        go true e = λ d q asked. subst IsImpossible (sym (query_is d q asked).1) (decides.joint_never this.own others e)
+        go : (b : Bool) → clashes (joined all) ≡ b → ReachIs net R i (cond b Nowhere (At f.d (numbers M first) (forced (joined all))))
+        go true e = λ d q asked. subst IsImpossible (sym (query_is d q asked).1) (decides.joint_never before this after e)
         go false e = reached e
 
   -- ---- all failure lines
@@ -332,18 +323,18 @@ module _ (net : Network) (ms : List (Scenario Term)) (h : IsListing net ms) (dec
   first_next i (suc d) = first_next (i + M) d
 
   failures_hold_in : (d : ℕ) (columns : List (List ℕ)) (k : Kept net ms h d columns) (n : ℕ) (before after : List (State Term)) → states_of k.scenario ≡ before ++ after → n ≡ length before
-      → AllByRecursion Holds (failures_in M d (first_of M 0 d) n before after)
+      → AllByRecursion Holds (failures_in (first_of M 0 d) n (reach_of M d (first_of M 0 d) (joined (states_of k.scenario))) after)
   failures_hold_in d columns k n before [] split place = tt
   failures_hold_in d columns k n before (s ∷ after) split place =
       let y = get_map state k.scenario.nodes n s (ap (λ (l : List (State Term)). slice_get l n) split ∙ (ap (slice_get (before ++ (s ∷ after))) place ∙ get_behind before s after)) in
       let i = first_of M 0 d + n in
       let f : Found net ms h i = record { d = d; n = n; columns = columns; kept = k; node = y.0; there = y.1; is = refl } in
       let here : states_of k.scenario ≡ before ++ (y.0.state ∷ after) = split ∙ ap (λ (x : State Term). before ++ (x ∷ after)) (sym y.2) in
-      let reach : ReachIs net R i (reach_of M d (first_of M 0 d) (s.own ++ joined (before ++ after))) =
-          subst (λ (x : State Term). ReachIs net R i (reach_of M d (first_of M 0 d) (x.own ++ joined (before ++ after)))) y.2 (reach_is i f before after here place) in
+      let whole = reach_of M d (first_of M 0 d) (joined (states_of k.scenario)) in
+      let reach : ReachIs net R i whole = subst (λ (ss : List (State Term)). ReachIs net R i (reach_of M d (first_of M 0 d) (joined ss))) (sym here) (reach_is i f before after here place) in
       let longer : n + 1 ≡ length (before ++ (s ∷ [])) = omega (arith, place, length-append before (s ∷ [])) in
-      all_join Holds (failure_of i (reach_of M d (first_of M 0 d) (s.own ++ joined (before ++ after))) s.outcome) (failures_in M d (first_of M 0 d) (n + 1) (before ++ (s ∷ [])) after)
-      (one i (reach_of M d (first_of M 0 d) (s.own ++ joined (before ++ after))) reach s.outcome (λ w. (line_of n y.0.state, line_at net ms h d n columns k y.0 y.1, subst (λ (x : State Term). IsFailure x.outcome) (sym y.2) w)))
+      all_join Holds (failure_of i whole s.outcome) (failures_in (first_of M 0 d) (n + 1) whole after)
+      (one i whole reach s.outcome (λ w. (line_of n y.0.state, line_at net ms h d n columns k y.0 y.1, subst (λ (x : State Term). IsFailure x.outcome) (sym y.2) w)))
       (failures_hold_in d columns k (n + 1) (before ++ (s ∷ [])) after (split ∙ sym (append_assoc before (s ∷ []) after)) longer)
     where
       one : (i : ℕ) (reach : Reach) → ReachIs net R i reach → (o : Outcome) → (IsFailure o → IsFailedState R i) → AllByRecursion Holds (failure_of i reach o)
@@ -357,12 +348,12 @@ module _ (net : Network) (ms : List (Scenario Term)) (h : IsListing net ms) (dec
       let at : slice_get ms d ≡ Some s = ap (λ (l : List (Scenario Term)). slice_get l d) split ∙ (ap (slice_get (front ++ (s ∷ ns))) place ∙ get_behind front s ns) in
       let k = kept_of net ms h d s at in
       let same : states_of k.scenario ≡ states_of s = ap states_of (some_one k.scenario s (sym k.member ∙ at)) in
-      let here = failures_hold_in d (singles M (first_of M 0 d)) k 0 [] (states_of s) same refl in
+      let here = failures_hold_in d (singles M (first_of M 0 d)) k 0 [] (states_of k.scenario) refl refl in
       let longer : d + 1 ≡ length (front ++ (s ∷ [])) = omega (arith, place, length-append front (s ∷ [])) in
       let suc_d : suc d ≡ d + 1 = omega arith in
       let next : i + M ≡ first_of M 0 (d + 1) = ap (λ (j : ℕ). j + M) first ∙ (sym (first_next 0 d) ∙ ap (first_of M 0) suc_d) in
-      all_join Holds (failures_in M d i 0 [] (states_of s)) (failures_from M (d + 1) (i + M) (lists ns))
-      (subst (λ (j : ℕ). AllByRecursion Holds (failures_in M d j 0 [] (states_of s))) (sym first) here)
+      all_join Holds (failures_in i 0 (reach_of M d i (joined (states_of s))) (states_of s)) (failures_from M (d + 1) (i + M) (lists ns))
+      (subst (λ (ss : List (State Term)). AllByRecursion Holds (failures_in i 0 (reach_of M d i (joined ss)) ss)) same (subst (λ (j : ℕ). AllByRecursion Holds (failures_in j 0 (reach_of M d j (joined (states_of k.scenario))) (states_of k.scenario))) (sym first) here))
       (failures_hold_from (front ++ (s ∷ [])) ns (d + 1) (i + M) (split ∙ sym (append_assoc front (s ∷ []) ns)) longer next)
 
   pub failures_hold : AllByRecursion Holds (failures_from M 0 0 (lists ms))
@@ -371,37 +362,38 @@ module _ (net : Network) (ms : List (Scenario Term)) (h : IsListing net ms) (dec
   abbrev number : FailureLine → ℕ
   number w = w.state
 
-  fails_in : (d i n : ℕ) (before after : List (State Term)) (m : ℕ) (s : State Term) → slice_get after m ≡ Some s → IsFailure s.outcome → Contains (map number (failures_in M d i n before after)) (i + (n + m))
-  fails_in d i n before [] m s e w = none_some s e
-  fails_in d i n before (x ∷ after) zero s e w =
-      let here = failure_of (i + n) (reach_of M d i (x.own ++ joined (before ++ after))) x.outcome in
-      let rest = failures_in M d i (n + 1) (before ++ (x ∷ [])) after in
+  fails_in : (i n : ℕ) (reach : Reach) (ss : List (State Term)) (m : ℕ) (s : State Term) → slice_get ss m ≡ Some s → IsFailure s.outcome → Contains (map number (failures_in i n reach ss)) (i + (n + m))
+  fails_in i n reach [] m s e w = none_some s e
+  fails_in i n reach (x ∷ ss) zero s e w =
+      let here = failure_of (i + n) reach x.outcome in
+      let rest = failures_in i (n + 1) reach ss in
       let place : i + n ≡ i + (n + zero) = omega arith in
       subst (λ (l : List ℕ). Contains l (i + (n + zero))) (sym (map-append number here rest))
-      (Contains-append_left (map number here) (map number rest) (i + (n + zero)) (subst (λ (j : ℕ). Contains (map number here) j) place (one (i + n) (reach_of M d i (x.own ++ joined (before ++ after))) x.outcome (subst (λ (z : State Term). IsFailure z.outcome) (sym (some_one x s e)) w))))
+      (Contains-append_left (map number here) (map number rest) (i + (n + zero)) (subst (λ (j : ℕ). Contains (map number here) j) place (one (i + n) x.outcome (subst (λ (z : State Term). IsFailure z.outcome) (sym (some_one x s e)) w))))
     where
-      one : (j : ℕ) (reach : Reach) (o : Outcome) → IsFailure o → Contains (map number (failure_of j reach o)) j
-      one j reach Running w = absurd w
-      one j reach Halted w = absurd w
-      one j reach (Failed kind pc tick) w = only j
-  fails_in d i n before (x ∷ after) (suc m) s e w =
-      let here = failure_of (i + n) (reach_of M d i (x.own ++ joined (before ++ after))) x.outcome in
-      let rest = failures_in M d i (n + 1) (before ++ (x ∷ [])) after in
+      one : (j : ℕ) (o : Outcome) → IsFailure o → Contains (map number (failure_of j reach o)) j
+      one j Running w = absurd w
+      one j Halted w = absurd w
+      one j (Failed kind pc tick) w = only j
+  fails_in i n reach (x ∷ ss) (suc m) s e w =
+      let here = failure_of (i + n) reach x.outcome in
+      let rest = failures_in i (n + 1) reach ss in
       let place : i + ((n + 1) + m) ≡ i + (n + suc m) = omega arith in
       subst (λ (l : List ℕ). Contains l (i + (n + suc m))) (sym (map-append number here rest))
-      (Contains-append_right (map number here) (map number rest) (i + (n + suc m)) (subst (λ (j : ℕ). Contains (map number rest) j) place (fails_in d i (n + 1) (before ++ (x ∷ [])) after m s e w)))
+      (Contains-append_right (map number here) (map number rest) (i + (n + suc m)) (subst (λ (j : ℕ). Contains (map number rest) j) place (fails_in i (n + 1) reach ss m s e w)))
 
   fails_from : (d i : ℕ) (xs : List (List (State Term))) (e : ℕ) (x : List (State Term)) (n : ℕ) (s : State Term) → slice_get xs e ≡ Some x → slice_get x n ≡ Some s → IsFailure s.outcome
       → Contains (map number (failures_from M d i xs)) (first_of M i e + n)
   fails_from d i [] e x n s p q w = none_some x p
   fails_from d i (y ∷ xs) zero x n s p q w =
-      let here = failures_in M d i 0 [] y in
+      let reach = reach_of M d i (joined y) in
+      let here = failures_in i 0 reach y in
       let rest = failures_from M (d + 1) (i + M) xs in
       let place : i + (0 + n) ≡ i + n = omega arith in
       subst (λ (l : List ℕ). Contains l (i + n)) (sym (map-append number here rest))
-      (Contains-append_left (map number here) (map number rest) (i + n) (subst (λ (j : ℕ). Contains (map number here) j) place (fails_in d i 0 [] y n s (ap (λ (l : List (State Term)). slice_get l n) (some_one y x p) ∙ q) w)))
+      (Contains-append_left (map number here) (map number rest) (i + n) (subst (λ (j : ℕ). Contains (map number here) j) place (fails_in i 0 reach y n s (ap (λ (l : List (State Term)). slice_get l n) (some_one y x p) ∙ q) w)))
   fails_from d i (y ∷ xs) (suc e) x n s p q w =
-      let here = failures_in M d i 0 [] y in
+      let here = failures_in i 0 (reach_of M d i (joined y)) y in
       let rest = failures_from M (d + 1) (i + M) xs in
       subst (λ (l : List ℕ). Contains l (first_of M (i + M) e + n)) (sym (map-append number here rest))
       (Contains-append_right (map number here) (map number rest) (first_of M (i + M) e + n) (fails_from (d + 1) (i + M) xs e x n s p q w))
@@ -426,19 +418,18 @@ module _ (net : Network) (ms : List (Scenario Term)) (h : IsListing net ms) (dec
       later (z ∷ zs) v = (less_is x.state z.state (omega (arith, u.0, v.0)), later zs v.1)
 
   -- a scenario's failure lines lie between its numbers
-  between : (d i n : ℕ) (before after : List (State Term)) → AllByRecursion (λ (w : FailureLine). (i + n ≤ w.state) × (w.state < i + (n + length after))) (failures_in M d i n before after)
-  between d i n before [] = tt
-  between d i n before (s ∷ after) =
-      all_join (λ (w : FailureLine). (i + n ≤ w.state) × (w.state < i + (n + suc (length after)))) (failure_of (i + n) (reach_of M d i (s.own ++ joined (before ++ after))) s.outcome) (failures_in M d i (n + 1) (before ++ (s ∷ [])) after)
-      (one (reach_of M d i (s.own ++ joined (before ++ after))) s.outcome)
-      (weaker (failures_in M d i (n + 1) (before ++ (s ∷ [])) after) (between d i (n + 1) (before ++ (s ∷ [])) after))
+  between : (i n : ℕ) (reach : Reach) (ss : List (State Term)) → AllByRecursion (λ (w : FailureLine). (i + n ≤ w.state) × (w.state < i + (n + length ss))) (failures_in i n reach ss)
+  between i n reach [] = tt
+  between i n reach (s ∷ ss) =
+      all_join (λ (w : FailureLine). (i + n ≤ w.state) × (w.state < i + (n + suc (length ss)))) (failure_of (i + n) reach s.outcome) (failures_in i (n + 1) reach ss)
+      (one s.outcome) (weaker (failures_in i (n + 1) reach ss) (between i (n + 1) reach ss))
     where
-      one : (reach : Reach) (o : Outcome) → AllByRecursion (λ (w : FailureLine). (i + n ≤ w.state) × (w.state < i + (n + suc (length after)))) (failure_of (i + n) reach o)
-      one reach Running = tt
-      one reach Halted = tt
-      one reach (Failed kind pc tick) = ((omega arith, omega arith), tt)
+      one : (o : Outcome) → AllByRecursion (λ (w : FailureLine). (i + n ≤ w.state) × (w.state < i + (n + suc (length ss)))) (failure_of (i + n) reach o)
+      one Running = tt
+      one Halted = tt
+      one (Failed kind pc tick) = ((omega arith, omega arith), tt)
 
-      weaker : (ws : List FailureLine) → AllByRecursion (λ (w : FailureLine). (i + (n + 1) ≤ w.state) × (w.state < i + ((n + 1) + length after))) ws → AllByRecursion (λ (w : FailureLine). (i + n ≤ w.state) × (w.state < i + (n + suc (length after)))) ws
+      weaker : (ws : List FailureLine) → AllByRecursion (λ (w : FailureLine). (i + (n + 1) ≤ w.state) × (w.state < i + ((n + 1) + length ss))) ws → AllByRecursion (λ (w : FailureLine). (i + n ≤ w.state) × (w.state < i + (n + suc (length ss)))) ws
       weaker [] u = tt
       weaker (w ∷ ws) u = let low = u.0.0 in let high = u.0.1 in ((omega (arith, low), omega (arith, high)), weaker ws u.1)
 
@@ -454,35 +445,35 @@ module _ (net : Network) (ms : List (Scenario Term)) (h : IsListing net ms) (dec
   all_lower a b le [] u = tt
   all_lower a b le (w ∷ ws) u = let low = u.0 in (omega (arith, le, low), all_lower a b le ws u.1)
 
-  rises_in : (d i n : ℕ) (before after : List (State Term)) → Rises nat_cmp (map number (failures_in M d i n before after))
-  rises_in d i n before [] = tt
-  rises_in d i n before (s ∷ after) =
-      let rest = failures_in M d i (n + 1) (before ++ (s ∷ [])) after in
-      let reach = reach_of M d i (s.own ++ joined (before ++ after)) in
-      rises_append (failure_of (i + n) reach s.outcome) rest (i + (n + 1)) (alone_rises (i + n) reach s.outcome) (rises_in d i (n + 1) (before ++ (s ∷ [])) after) (one reach s.outcome)
-      (all_low (i + (n + 1)) (i + ((n + 1) + length after)) rest (between d i (n + 1) (before ++ (s ∷ [])) after))
+  rises_in : (i n : ℕ) (reach : Reach) (ss : List (State Term)) → Rises nat_cmp (map number (failures_in i n reach ss))
+  rises_in i n reach [] = tt
+  rises_in i n reach (s ∷ ss) =
+      let rest = failures_in i (n + 1) reach ss in
+      rises_append (failure_of (i + n) reach s.outcome) rest (i + (n + 1)) (alone_rises (i + n) s.outcome) (rises_in i (n + 1) reach ss) (one s.outcome)
+      (all_low (i + (n + 1)) (i + ((n + 1) + length ss)) rest (between i (n + 1) reach ss))
     where
-      alone_rises : (j : ℕ) (reach : Reach) (o : Outcome) → Rises nat_cmp (map number (failure_of j reach o))
-      alone_rises j reach Running = tt
-      alone_rises j reach Halted = tt
-      alone_rises j reach (Failed kind pc tick) = (tt, tt)
+      alone_rises : (j : ℕ) (o : Outcome) → Rises nat_cmp (map number (failure_of j reach o))
+      alone_rises j Running = tt
+      alone_rises j Halted = tt
+      alone_rises j (Failed kind pc tick) = (tt, tt)
 
-      one : (reach : Reach) (o : Outcome) → AllByRecursion (λ (w : FailureLine). w.state < i + (n + 1)) (failure_of (i + n) reach o)
-      one reach Running = tt
-      one reach Halted = tt
-      one reach (Failed kind pc tick) = (omega arith, tt)
+      one : (o : Outcome) → AllByRecursion (λ (w : FailureLine). w.state < i + (n + 1)) (failure_of (i + n) reach o)
+      one Running = tt
+      one Halted = tt
+      one (Failed kind pc tick) = (omega arith, tt)
 
   in_order_from : (d i : ℕ) (xs : List (List (State Term))) → AreLong M xs → Rises nat_cmp (map number (failures_from M d i xs)) × AllByRecursion (λ (w : FailureLine). i ≤ w.state) (failures_from M d i xs)
   in_order_from d i [] long = (tt, tt)
   in_order_from d i (x ∷ xs) long =
-      let here = failures_in M d i 0 [] x in
+      let reach = reach_of M d i (joined x) in
+      let here = failures_in i 0 reach x in
       let rest = failures_from M (d + 1) (i + M) xs in
       let others = in_order_from (d + 1) (i + M) xs long.1 in
-      let inside = between d i 0 [] x in
+      let inside = between i 0 reach x in
       let top : i + (0 + length x) ≡ i + M = omega (arith, long.0) in
       let bottom : i + 0 ≡ i = omega arith in
       (
-        rises_append here rest (i + M) (rises_in d i 0 [] x) others.0 (subst (λ (b : ℕ). AllByRecursion (λ (w : FailureLine). w.state < b) here) top (all_high (i + 0) (i + (0 + length x)) here inside)) others.1,
+        rises_append here rest (i + M) (rises_in i 0 reach x) others.0 (subst (λ (b : ℕ). AllByRecursion (λ (w : FailureLine). w.state < b) here) top (all_high (i + 0) (i + (0 + length x)) here inside)) others.1,
         all_join (λ (w : FailureLine). i ≤ w.state) here rest (subst (λ (b : ℕ). AllByRecursion (λ (w : FailureLine). b ≤ w.state) here) bottom (all_low (i + 0) (i + (0 + length x)) here inside)) (all_lower i (i + M) (omega arith) rest others.1),
       )
 

@@ -7,3 +7,4 @@ pub mod Valuations
 pub mod ReportViews
 pub mod Listing
 pub mod Texts
+pub mod Form

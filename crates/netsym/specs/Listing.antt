@@ -36,15 +36,14 @@ failure_of i reach Running = []
 failure_of i reach Halted = []
 failure_of i reach (Failed kind pc tick) = record { state = i; reach = reach } ∷ []
 
--- the failure lines of the states that follow those before in scenario d, whose states have the numbers from i on
-abbrev pub failures_in : (nodes d i n : ℕ) → (before after : List (State Term)) → List FailureLine
-failures_in nodes d i n before [] = []
-failures_in nodes d i n before (s ∷ after) =
-    failure_of (i + n) (reach_of nodes d i (s.own ++ joined (before ++ after))) s.outcome ++ failures_in nodes d i (n + 1) (before ++ s ∷ []) after
+-- the failure lines of the nodes from n on of a scenario, whose states have the numbers from i on
+abbrev pub failures_in : (i n : ℕ) → Reach → List (State Term) → List FailureLine
+failures_in i n reach [] = []
+failures_in i n reach (s ∷ ss) = failure_of (i + n) reach s.outcome ++ failures_in i (n + 1) reach ss
 
 abbrev pub failures_from : (nodes d i : ℕ) → List (List (State Term)) → List FailureLine
 failures_from nodes d i [] = []
-failures_from nodes d i (ss ∷ list) = failures_in nodes d i 0 [] ss ++ failures_from nodes (d + 1) (i + nodes) list
+failures_from nodes d i (ss ∷ list) = failures_in i 0 (reach_of nodes d i (joined ss)) ss ++ failures_from nodes (d + 1) (i + nodes) list
 
 -- scenarios by number; state n of scenario i has the number i times the nodes, and n
 abbrev pub report_of : Network → List (List (State Term)) → Report

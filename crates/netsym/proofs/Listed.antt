@@ -1,0 +1,180 @@
+-- What is known of the scenarios that are kept.
+use Rattle.std.proofs.Common.{◌≡◌, ◌⊎◌, inl, inr, ℕ, zero, suc, ◌+◌, ◌<◌, ◌≤◌, Bool, true, false, cond, not, List, [], ◌∷◌, ◌++◌, length, map, take, drop, get_or, Option, Some, None, refl, sym, ap, subst, ◌∙◌, arith, append_assoc}
+use Rattle.std.specs.Prelude.{Contains, slice_get, slice_index_or, flat_map, filter, ◌&&◌}
+use Rattle.std.specs.List.{AllByRecursion}
+use Rattle.std.specs.Cmp.Lexicographic.{slice_cmp}
+use Rattle.std.proofs.lemmas.List.{map-append, length-map, take_at, drop_at, length-append}
+use Rattle.std.proofs.lemmas.List.Concat.{flat_map-cons}
+use Rattle.std.proofs.lemmas.List.Elements.{All-contains_itself, recursion_from_All}
+use Rattle.kn_model.specs.Terms.{Term, Valuation, terms}
+use Rattle.kn_model.specs.Nodes.{State, Node}
+use Rattle.kn_model.specs.Nets.{Network}
+use Rattle.kn_model.specs.Scenarios.{Scenario, name_of, cob}
+use Rattle.kn_model.specs.Conditions.{Condition, Query, that, that_with, IsLeast, IsImpossible}
+use Rattle.kn_model.specs.Deciding.{IsPlain, clashes, forced, joined, none_clashes}
+use Rattle.kn_model.specs.Cores.{HasImpossible}
+use Rattle.kn_model.specs.Reports.{ends, Rises, trace_cmp, Gives}
+use Rattle.kn_model.specs.Laws.{IsNet}
+use Rattle.kn_model.proofs.Clashing.{both, not_true, clash_is_impossible}
+use Rattle.kn_model.proofs.LeastInputs.{forced_is_least}
+use Rattle.kn_model.proofs.JoinedQuery.{alone, all_of}
+use Rattle.kn_model.proofs.Swapping.{one_and_others}
+use Rattle.kn_model.proofs.Rising.{names_rise, rises_of_filtered}
+use Rattle.kn_model.proofs.Implied.{run_ends_as_member}
+use Rattle.kn_model.proofs.Named.{one_by_name}
+use Rattle.kn_model.proofs.Naming.{have_nodes}
+use Rattle.netsym.specs.Shown.{states_of, kept}
+use Rattle.netsym.specs.Listing.{report_of}
+use Rattle.netsym.proofs.Numbered.{some_one, contained_at, contains_at}
+use Rattle.netsym.proofs.Given.{IsListing, lists}
+use Rattle.netsym.proofs.Failing.{Decides, alternative, report_given}
+
+-- ---- plain conditions are decided
+
+abbrev own : State Term → Condition
+own s = s.own
+
+alternatives_alone : (ss : List (State Term)) → map alternative ss ≡ alone (map own ss)
+alternatives_alone [] = refl
+alternatives_alone (s ∷ ss) = ap (λ (l : List (List Condition)). alternative s ∷ l) (alternatives_alone ss)
+
+joined_all : (ss : List (State Term)) → joined ss ≡ all_of (map own ss)
+joined_all [] = refl
+joined_all (s ∷ ss) = flat_map-cons own s ss ∙ ap (λ (c : Condition). s.own ++ c) (joined_all ss)
+
+get_behind_or : (xs : List Condition) (c d : Condition) (ys : List Condition) → get_or (xs ++ (c ∷ ys)) (length xs) d ≡ c
+get_behind_or [] c d ys = refl
+get_behind_or (x ∷ xs) c d ys = get_behind_or xs c d ys
+
+-- a state's own condition with those of the others as columns of one alternative each: the condition of all of them
+whole_query : (before : List (State Term)) (s : State Term) (after : List (State Term)) → that_with s.own (map alternative (before ++ after)) ≡ that (joined (before ++ (s ∷ after)))
+whole_query before s after =
+    let front = map own before in
+    let back = map own after in
+    let cs = front ++ (s.own ∷ back) in
+    let n = length front in
+    let inside : n < length cs = omega (arith, length-append front (s.own ∷ back)) in
+    let this : get_or cs n [] ≡ s.own = get_behind_or front s.own [] back in
+    let taken : take n cs ≡ front = take_at front (s.own ∷ back) n refl in
+    let dropped : drop (n + 1) cs ≡ back = ap (drop (n + 1)) (sym (append_assoc front (s.own ∷ []) back)) ∙ drop_at (front ++ (s.own ∷ [])) back (n + 1) (length-append front (s.own ∷ [])) in
+    let others : alone (take n cs ++ drop (n + 1) cs) ≡ map alternative (before ++ after) =
+        ap alone (ap (λ l. l ++ drop (n + 1) cs) taken ∙ ap (λ l. front ++ l) dropped ∙ sym (map-append own before after)) ∙ sym (alternatives_alone (before ++ after)) in
+    let all : all_of cs ≡ joined (before ++ (s ∷ after)) = ap all_of (sym (map-append own before (s ∷ after))) ∙ sym (joined_all (before ++ (s ∷ after))) in
+    ap (that_with s.own) (sym others)
+    ∙ ap (λ (c : Condition). that_with c (alone (take n cs ++ drop (n + 1) cs))) (sym this)
+    ∙ one_and_others cs n inside
+    ∙ ap that all
+
+pub plain_decides : Decides
+plain_decides = record {
+  least = forced_is_least;
+  joint_least = λ before s after plain sure. subst (λ (q : Query). IsLeast q (forced (joined (before ++ (s ∷ after))))) (sym (whole_query before s after)) (forced_is_least (joined (before ++ (s ∷ after))) plain sure);
+  joint_never = λ before s after clash. subst IsImpossible (sym (whole_query before s after)) (clash_is_impossible (joined (before ++ (s ∷ after))) clash);
+}
+
+-- ---- the scenarios in which no own condition clashes
+
+abbrev is_kept : Scenario Term → Bool
+is_kept s = none_clashes (states_of s)
+
+abbrev pub kept_scenarios : Network → List (Scenario Term)
+kept_scenarios net = filter is_kept (ends net)
+
+all_filtered : {A : Type 0} (P : A → Type 0) (test : A → Bool) (xs : List A) → AllByRecursion P xs → AllByRecursion P (filter test xs)
+all_filtered P test [] h = tt
+all_filtered P test (x ∷ xs) h = go (test x) (all_filtered P test xs h.1)
+  where
+    go : (b : Bool) → AllByRecursion P (filter test xs) → AllByRecursion P (cond b (x ∷ filter test xs) (filter test xs))
+    go true rest = (h.0, rest)
+    go false rest = rest
+
+all_pass : {A : Type 0} (test : A → Bool) (xs : List A) → AllByRecursion (λ x. test x ≡ true) (filter test xs)
+all_pass test [] = tt
+all_pass test (x ∷ xs) = go (test x) refl (all_pass test xs)
+  where
+    go : (b : Bool) → test x ≡ b → AllByRecursion (λ x. test x ≡ true) (filter test xs) → AllByRecursion (λ x. test x ≡ true) (cond b (x ∷ filter test xs) (filter test xs))
+    go true e rest = (e, rest)
+    go false e rest = rest
+
+filter_states : (xs : List (Scenario Term)) → filter none_clashes (map states_of xs) ≡ map states_of (filter is_kept xs)
+filter_states [] = refl
+filter_states (x ∷ xs) = go (none_clashes (states_of x)) (filter_states xs)
+  where
+    go : (b : Bool) → filter none_clashes (map states_of xs) ≡ map states_of (filter is_kept xs)
+        → cond b (states_of x ∷ filter none_clashes (map states_of xs)) (filter none_clashes (map states_of xs)) ≡ map states_of (cond b (x ∷ filter is_kept xs) (filter is_kept xs))
+    go true e = ap (λ l. states_of x ∷ l) e
+    go false e = e
+
+pub kept_lists : (net : Network) → lists (kept_scenarios net) ≡ kept net net.limits.ticks
+kept_lists net = sym (filter_states (ends net))
+
+all_of_map : {A B : Type 0} (P : B → Type 0) (f : A → B) (xs : List A) → AllByRecursion P (map f xs) → AllByRecursion (λ x. P (f x)) xs
+all_of_map P f [] h = tt
+all_of_map P f (x ∷ xs) h = (h.0, all_of_map P f xs h.1)
+
+none_clash : (ys : List (Node Term)) → none_clashes (map (λ (y : Node Term). y.state) ys) ≡ true → AllByRecursion (λ (y : Node Term). clashes y.state.own ≡ false) ys
+none_clash [] e = tt
+none_clash (y ∷ ys) e = let h = both (not (clashes y.state.own)) (none_clashes (map (λ (z : Node Term). z.state) ys)) e in (not_true (clashes y.state.own) h.0, none_clash ys h.1)
+
+all_none_clash : (xs : List (Scenario Term)) → AllByRecursion (λ s. is_kept s ≡ true) xs → AllByRecursion (λ (s : Scenario Term). AllByRecursion (λ (y : Node Term). clashes y.state.own ≡ false) s.nodes) xs
+all_none_clash [] h = tt
+all_none_clash (x ∷ xs) h = (none_clash x.nodes h.0, all_none_clash xs h.1)
+
+some_clash : (ys : List (Node Term)) → none_clashes (map (λ (y : Node Term). y.state) ys) ≡ false → (y : Node Term) × Contains ys y × (clashes y.state.own ≡ true)
+some_clash [] e = absurd cc
+some_clash (y ∷ ys) e = go (clashes y.state.own) refl (some_clash ys)
+  where
+    go : (b : Bool) → clashes y.state.own ≡ b → (none_clashes (map (λ (z : Node Term). z.state) ys) ≡ false → (z : Node Term) × Contains ys z × (clashes z.state.own ≡ true))
+        → (z : Node Term) × Contains (y ∷ ys) z × (clashes z.state.own ≡ true)
+    go true h others = (y, contains_at (y ∷ ys) 0 y refl, h)
+    go false h others =
+        let rest = others (ap (λ (b : Bool). not b && none_clashes (map (λ (z : Node Term). z.state) ys)) (sym h) ∙ e) in
+        let at = contained_at ys rest.0 rest.1 in
+        (rest.0, contains_at (y ∷ ys) (suc at.0) rest.0 at.1, rest.2)
+
+kept_or_lost : (xs : List (Scenario Term)) (s : Scenario Term) → Contains xs s → Contains (filter is_kept xs) s ⊎ HasImpossible s
+kept_or_lost xs s c = let at = contained_at xs s c in go (is_kept s) refl at.0 at.1
+  where
+    find : (ys : List (Scenario Term)) (k : ℕ) → is_kept s ≡ true → slice_get ys k ≡ Some s → (j : ℕ) × (slice_get (filter is_kept ys) j ≡ Some s)
+    find [] k e h = absurd cc
+    find (y ∷ ys) zero e h =
+        let same : y ≡ s = some_one y s h in
+        let pass : is_kept y ≡ true = ap is_kept same ∙ e in
+        (0, ap (λ (b : Bool). slice_get (cond b (y ∷ filter is_kept ys) (filter is_kept ys)) 0) pass ∙ ap (λ (z : Scenario Term). Some z) same)
+    find (y ∷ ys) (suc k) e h = later (is_kept y) (find ys k e h)
+      where
+        later : (b : Bool) → (j : ℕ) × (slice_get (filter is_kept ys) j ≡ Some s) → (j : ℕ) × (slice_get (cond b (y ∷ filter is_kept ys) (filter is_kept ys)) j ≡ Some s)
+        later true r = (suc r.0, r.1)
+        later false r = r
+
+    go : (b : Bool) → is_kept s ≡ b → (k : ℕ) → slice_get xs k ≡ Some s → Contains (filter is_kept xs) s ⊎ HasImpossible s
+    go true e k h = let at = find xs k e h in inl (contains_at (filter is_kept xs) at.0 s at.1)
+    go false e k h = let y = some_clash s.nodes e in inr (record { node = y.0; there = y.1; impossible = clash_is_impossible y.0.state.own y.2 })
+
+itself : (xs : List (Scenario Term)) → AllByRecursion (Contains xs) xs
+itself xs = recursion_from_All (Contains xs) xs (All-contains_itself xs)
+
+-- the own conditions of all states are constants and one-bit inputs alone
+abbrev pub ArePlain : List (List (State Term)) → Type 0
+ArePlain xs = AllByRecursion (λ (ss : List (State Term)). AllByRecursion (λ (s : State Term). IsPlain s.own) ss) xs
+
+plain_nodes : (ms : List (Scenario Term)) → ArePlain (lists ms) → AllByRecursion (λ (s : Scenario Term). AllByRecursion (λ (y : Node Term). IsPlain y.state.own) s.nodes) ms
+plain_nodes [] h = tt
+plain_nodes (s ∷ ms) h = (all_of_map (λ (x : State Term). IsPlain x.own) (λ (y : Node Term). y.state) s.nodes h.0, plain_nodes ms h.1)
+
+pub listing_of : (net : Network) → IsNet net → net.limits.ticks ≤ 1 → ArePlain (kept net net.limits.ticks) → IsListing net (kept_scenarios net)
+listing_of net good short plain = record {
+  members = all_filtered (Contains (ends net)) is_kept (ends net) (itself (ends net));
+  whole = all_filtered (λ (s : Scenario Term). length s.nodes ≡ length net.nodes) is_kept (ends net) (have_nodes net net.limits.ticks good);
+  plain = plain_nodes (kept_scenarios net) (subst ArePlain (sym (kept_lists net)) plain);
+  sure = all_none_clash (kept_scenarios net) (all_pass is_kept (ends net));
+  rises = rises_of_filtered (slice_cmp trace_cmp) name_of is_kept (ends net) (names_rise net good short);
+  others = λ s c. kept_or_lost (ends net) s c;
+  one = λ s u c d e. one_by_name net net.limits.ticks s u good c d e;
+  runs = λ s a c e. run_ends_as_member net a net.limits.ticks s good c e;
+}
+
+-- The report of the kept scenarios is given, for a network of at most one tick.
+pub kept_given : (net : Network) → IsNet net → net.limits.ticks ≤ 1 → ArePlain (kept net net.limits.ticks) → Gives (report_of net (kept net net.limits.ticks)) net
+kept_given net good short plain =
+    subst (λ (xs : List (List (State Term))). Gives (report_of net xs) net) (kept_lists net) (report_given net (kept_scenarios net) (listing_of net good short plain) plain_decides)
