@@ -1,0 +1,6 @@
+pub mod Edits
+pub mod Clashing
+pub mod Plain
+pub mod Steps
+pub mod BuiltWays
+pub mod Fitting

@@ -1,4 +1,5 @@
 //! netsym: symbolic execution of a whole network of small nodes.
 #![tactic(auto)]
 
+mod explore;
 mod net;
