@@ -4,3 +4,5 @@ pub mod Plain
 pub mod Steps
 pub mod BuiltWays
 pub mod Fitting
+pub mod Quiet
+pub mod Branching

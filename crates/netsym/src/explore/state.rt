@@ -5,6 +5,7 @@ ghost use Rattle.kn_model.specs.Terms.{Word, terms};
 ghost use Rattle.kn_model.specs.Nodes.{is_running, state_of};
 ghost use Rattle.kn_model.specs.Deciding.{IsPlain, clashes};
 ghost use Rattle.netsym.specs.Views.{term_of, literal_of, outcome_of};
+ghost use Rattle.netsym.specs.Branch.{IsQuietState};
 
 use crate::explore::value::{Decision, Value};
 use kn_trace::Trace;
@@ -85,9 +86,10 @@ impl NodeState {
         })
     }
 
-    /// Whether it has begun to boot.
+    /// Whether it has begun to boot. Nothing but a boot can be due.
     pub fn is_booted(&self) -> bool
-        ensures { result ≡ self.now.booted }
+        ensures value { result ≡ self.now.booted }
+        ensures quiet { IsQuietState self.now }
     {
         self.booted
     }
