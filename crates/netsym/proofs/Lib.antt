@@ -1,8 +1,14 @@
+pub mod Edits
+pub mod Clashing
+pub mod Plain
+pub mod Steps
+pub mod BuiltWays
+pub mod Fitting
+pub mod Quiet
+pub mod Branching
 pub mod Numbered
 pub mod Given
 pub mod Failing
 pub mod Listed
-pub mod Edits
-pub mod Plain
 pub mod Placing
 pub mod Printed

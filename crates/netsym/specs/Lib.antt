@@ -2,6 +2,7 @@ pub mod Plans
 pub mod Shown
 pub mod TermCode
 pub mod Views
+pub mod Stepped
 pub mod Branch
 pub mod Valuations
 pub mod ReportViews

@@ -1,6 +1,7 @@
 //! The network that is explored.
 
 ghost use Rattle.std.specs.Prelude.{◌≡◌, ◌<◌, ◌≤◌, length};
+ghost use Rattle.kn_code.specs.Code.{IsValid};
 ghost use Rattle.kn_model.specs.Nets.{code_of};
 
 use kn_code::Program;
@@ -30,9 +31,12 @@ impl Net {
     /// The program of a node.
     pub fn program(&self, node: u32) -> &Program
         requires { node < length self.now.nodes }
-        ensures { result.now ≡ code_of self.now node }
+        ensures value { result.now ≡ code_of self.now node }
+        ensures valid { IsValid (code_of self.now node) }
     {
-        &self.programs[self.nodes[node as usize]]
+        let program = &self.programs[self.nodes[node as usize]];
+        let _instrs = &program.instrs;
+        program
     }
 
     /// How many nodes there are, 1 to 64.
@@ -50,5 +54,13 @@ impl Net {
         ensures most { result ≤ 1 }
     {
         self.ticks
+    }
+
+    /// How many instructions an event may run, 512.
+    pub fn fuel(&self) -> u16
+        ensures { result ≡ self.now.limits.fuel }
+    {
+        let _nodes = &self.nodes;
+        512
     }
 }
