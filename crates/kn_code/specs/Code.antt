@@ -8,6 +8,7 @@ pub record Code : Type 0 where
   pub instrs : List Instr
   pub handlers : List (Option ℕ)
 
+-- the code without anything, which is no valid program
 abbrev pub no_code : Code
 no_code = record { instrs = []; handlers = [] }
 
@@ -40,6 +41,7 @@ Stands count left i = IsInstr count i × (left ≡ 0 → Ends i)
 abbrev pub Names : ℕ → ℕ → Option ℕ → Type 0
 Names count left entry = IfSome entry (λ e. e < count)
 
+-- 1 to 4,096 instructions, each of which stands, and ten handlers
 pub record IsValid (code : Code) : Type 0 where
   pub some : 1 ≤ length code.instrs
   pub fits : length code.instrs ≤ 4096

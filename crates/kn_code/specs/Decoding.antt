@@ -11,12 +11,13 @@ use Rattle.kn_code.specs.declared.decoding.CodeFault.{CodeFault}
 use Rattle.kn_code.specs.declared.decoding.CodeFault.TheVariants as faults
 use Rattle.kn_code.specs.Code.{Code}
 
+-- the first fault is the fault of the whole
 infixl 10 ◌>>=◌
 abbrev pub ◌>>=◌ : {A B : Type 0} → Result A CodeFault → (A → Result B CodeFault) → Result B CodeFault
 (Ok x) >>= f = f x
 (Err e) >>= f = Err e
 
--- What a function returned, seen by view, is what reading gives, unless memory ran out.
+-- a function's fault is the fault of the reading, unless memory ran out
 abbrev pub Fails : {Y : Type 0} → CodeFault → Result Y CodeFault → Type 0
 Fails (faults.Length place) read = read ≡ Err (faults.Length place)
 Fails (faults.Handler place) read = read ≡ Err (faults.Handler place)
@@ -25,6 +26,7 @@ Fails (faults.Field place) read = read ≡ Err (faults.Field place)
 Fails (faults.Target place) read = read ≡ Err (faults.Target place)
 Fails (faults.Memory e) read = Unit {0}
 
+-- what a function returned, seen by view, is what the reading gives, unless memory ran out
 abbrev pub Gives : {X Y : Type 0} → (X → Y) → Result X CodeFault → Result Y CodeFault → Type 0
 Gives view (Ok x) read = read ≡ Ok (view x)
 Gives view (Err e) read = Fails e read
@@ -37,15 +39,18 @@ items_from step width (suc left) place bytes = do
   others ← items_from step width left (place + width) (drop width bytes)
   Ok (first ∷ others)
 
+-- the entry at the front: 65,535 is none
 abbrev pub entry_at_lem : List ℕ → Option ℕ
 entry_at_lem bytes =
     let entry = from_be_bytes w16 (slice_index bytes 0 ∷ slice_index bytes 1 ∷ []) in
     if entry == 65535 then None else Some entry
 
+-- an entry that is none or below the number of instructions, else the entry
 abbrev pub names : ℕ → Option ℕ → Result (Option ℕ) ℕ
 names count None = Ok None
 names count (Some e) = if nat_lt e count then Ok (Some e) else Err e
 
+-- the fault of an entry, with its place
 abbrev pub handled : ℕ → Result (Option ℕ) ℕ → Result (Option ℕ) CodeFault
 handled place (Ok entry) = Ok entry
 handled place (Err entry) = Err (faults.Handler place)
@@ -84,21 +89,26 @@ row_at_lem bytes at = record {
   q = from_be_bytes w16 (slice_index bytes (at + 6) ∷ slice_index bytes (at + 7) ∷ []);
 }
 
+-- the fault of a row, with its place
 abbrev pub placed_lem : RowFault → ℕ → CodeFault
 placed_lem rows.Opcode place = faults.Opcode place
 placed_lem rows.Field place = faults.Field place
 placed_lem rows.Target place = faults.Target place
 
+-- the same of what was read
 abbrev pub instr_placed : ℕ → Result Instr RowFault → Result Instr CodeFault
 instr_placed place (Ok i) = Ok i
 instr_placed place (Err f) = Err (placed_lem f place)
 
+-- the row at the front is the instruction of a program
 unfoldable pub instr_at : ℕ → ℕ → ℕ → List ℕ → Result Instr CodeFault
 instr_at count left place bytes = instr_placed place (instr_of_lem count (left == 0) (row_at_lem bytes 0))
 
+-- the number of instructions that the bytes announce
 abbrev pub count_of : List ℕ → ℕ
 count_of bytes = from_be_bytes w16 (slice_index bytes 0 ∷ slice_index bytes 1 ∷ [])
 
+-- 22 bytes and eight for each of 1 to 4,096 instructions
 abbrev pub has_length : List ℕ → ℕ → ℕ → Bool
 has_length bytes len count = not (nat_lt len 22) && not (count == 0) && not (nat_lt 4096 count) && (len == 22 + 8 * count)
 

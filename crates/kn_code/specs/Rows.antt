@@ -58,6 +58,7 @@ row_bytes r = r.code ∷ r.a ∷ r.b ∷ r.c ∷ (to_be_bytes w16 r.p ++ to_be_b
 abbrev pub entry_bytes : Option ℕ → List ℕ
 entry_bytes entry = to_be_bytes w16 (unwrap_or entry 65535)
 
+-- the eight bytes of an instruction
 abbrev pub instr_bytes : Instr → List ℕ
 instr_bytes i = row_bytes (row_of_lem i)
 

@@ -103,7 +103,7 @@ impl Program {
     }
 
     /// That the program is valid, for a caller that needs it in a proof.
-    pub fn is_valid(&self)
+    pub fn validity(&self)
         ensures { IsValid self.now }
     {
         let _ = &self.instrs;
@@ -137,14 +137,6 @@ impl PartialEq for Program {
     {
         self.instrs.as_slice() == other.instrs.as_slice() && self.handlers == other.handlers
     }
-}
-
-fn is_shared<T: Send + Sync>() {}
-
-/// Programs and instructions may be moved between threads and shared by them.
-pub fn shared() {
-    is_shared::<Instr>();
-    is_shared::<Program>();
 }
 
 fn instr_among(instrs: &[Instr], at: u16) -> Option<Instr>

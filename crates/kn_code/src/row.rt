@@ -38,7 +38,8 @@ fn checked(fields: bool, target: bool, instr: Instr) -> Result<Instr, RowFault>
     Ok(instr)
 }
 
-/// The instruction of a row among `count`.
+/// The instruction of a row among `count`, which is the last one or not. One arm for each row that a program may hold; the
+/// fields are tested before the target.
 pub fn instr_of(row: Row, count: u16, is_last: bool) -> Result<Instr, RowFault>
     ensures { result ≡ instr_of_lem count is_last row }
 {

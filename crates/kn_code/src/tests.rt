@@ -58,7 +58,7 @@ fn halt_reads_and_is_spelled(rt: HostRuntime) -> Result<(), Fail> {
         Ok(other) => assert!(rt; other != program),
         Err(_) => assert!(rt; false),
     }
-    program.is_valid();
+    program.validity();
     reads_back();
     one_spelling();
     shared();
