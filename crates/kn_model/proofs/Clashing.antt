@@ -33,7 +33,7 @@ and_swap true false = refl
 and_swap false true = refl
 and_swap false false = refl
 
-and_false : (x : Bool) → (x && false) ≡ false
+pub and_false : (x : Bool) → (x && false) ≡ false
 and_false true = refl
 and_false false = refl
 

@@ -18,8 +18,9 @@ use Rattle.kn_model.specs.Concrete.{concrete, scenario_under, node_under}
 use Rattle.kn_model.specs.Deciding.{joined}
 use Rattle.kn_model.specs.Reports.{Report, Shows, RunShows, pick_condition}
 use Rattle.kn_model.specs.Laws.{IsNet}
-use Rattle.kn_model.proofs.Lists.{all-append, all-map, all-filter}
+use Rattle.kn_model.proofs.Lists.{all-append, all-map, all-filter, all-flat, all-weaker}
 use Rattle.kn_model.proofs.EachWay.{Kept, all_event_ways}
+use Rattle.kn_model.proofs.Naming.{opening_length}
 use Rattle.kn_model.proofs.Sending.{is_here}
 use Rattle.kn_model.proofs.Settling.{length-posted}
 use Rattle.kn_model.proofs.Under.{holds-append}
@@ -28,14 +29,6 @@ use Rattle.kn_model.proofs.Coverage as members
 use Rattle.kn_model.proofs.OneRun as runs
 
 -- lists
-all-weaker : {A : Type 0} (P Q : A → Type 0) → ((x : A) → P x → Q x) → (xs : List A) → AllByRecursion P xs → AllByRecursion Q xs
-all-weaker P Q f [] h = tt
-all-weaker P Q f (x ∷ xs) h = (f x h.0, all-weaker P Q f xs h.1)
-
-all-flat : {A B : Type 0} (Q : B → Type 0) (f : A → List B) (xs : List A) → AllByRecursion (λ x. AllByRecursion Q (f x)) xs → AllByRecursion Q (flat_map f xs)
-all-flat Q f [] h = tt
-all-flat Q f (x ∷ xs) h = all-append Q (f x) (flat_map f xs) h.0 (all-flat Q f xs h.1)
-
 all-set : {A : Type 0} (P : A → Type 0) (xs : List A) (n : ℕ) (x : A) → AllByRecursion P xs → P x → AllByRecursion P (set xs n x)
 all-set P [] n x h p = tt
 all-set P (y ∷ xs) zero x h p = (p, h.1)
@@ -67,7 +60,7 @@ all-contains {A} P xs x h c = go xs h c.0 c.1 c.2
     go (y ∷ ys) p (suc k) inside e = go ys p.1 k (omega arith) e
 
 module _ (a : Valuation) where
-  abbrev Holds : Condition → Type 0
+  abbrev pub Holds : Condition → Type 0
   Holds c = holds a c ≡ true
 
   join_holds : (c d : Condition) → Holds c → Holds d → Holds (c ++ d)
@@ -77,7 +70,7 @@ module _ (a : Valuation) where
   parts_hold c d h = both (holds a c) (holds a d) (sym (holds-append a c d) ∙ h)
 
   -- along an event the own condition stays, and it implies, with the literals so far, the guard of each packet that was sent
-  abbrev Guards : Condition → List (Packet Term) → Type 0
+  abbrev pub Guards : Condition → List (Packet Term) → Type 0
   Guards c qs = AllByRecursion (λ (q : Packet Term). Holds c → Holds q.guard) qs
 
   abbrev IsImplied : Condition → Way Term → Type 0
@@ -116,10 +109,10 @@ module _ (a : Valuation) where
   begun_own t (Timer number) s = refl
 
   -- a path's own condition is the one before with the path's literals, and it implies the guards of what was sent
-  abbrev PathImplied : Condition → Path Term → Type 0
+  abbrev pub PathImplied : Condition → Path Term → Type 0
   PathImplied own p = (p.state.own ≡ own ++ p.literals) × Guards (own ++ p.literals) p.sends
 
-  paths_implied : (net : Network) (n t : ℕ) (e : Event) (s : State Term) → IsNet net → AllByRecursion (PathImplied s.own) (event_paths terms net n t e s)
+  pub paths_implied : (net : Network) (n t : ℕ) (e : Event) (s : State Term) → IsNet net → AllByRecursion (PathImplied s.own) (event_paths terms net n t e s)
   paths_implied net n t e s good =
       let here = here_at terms net n t e s in
       all-map (IsImplied s.own) (PathImplied s.own) (path_of terms) (λ w h. (ap (λ (c : Condition). c ++ w.literals) h.0, h.1)) (event_ways terms here e (first_way terms (begun terms t e s)))
@@ -238,10 +231,6 @@ module _ (a : Valuation) where
   opening_each : (plans : List Plan) → AllByRecursion NodeHolds (map (opening_node terms) plans)
   opening_each [] = tt
   opening_each (p ∷ plans) = ((refl, tt), opening_each plans)
-
-  opening_length : (plans : List Plan) → length (map (opening_node terms) plans) ≡ length plans
-  opening_length [] = refl
-  opening_length (p ∷ plans) = ap suc (opening_length plans)
 
   members_imply : (net : Network) (t : ℕ) (good : IsNet net) → All net t good (cob terms net t)
   members_imply net zero good = (record { fits = opening_length net.nodes; each = λ i. opening_each net.nodes; together = λ i. refl }, tt)

@@ -12,7 +12,7 @@ use Rattle.kn_model.specs.Values.{Literal}
 use Rattle.kn_model.specs.Terms.{Term, Word, Input, Apply, Choice, Given, Valuation, listed, same_bit, word_holds}
 use Rattle.kn_model.specs.Conditions.{Condition, Read, holds, literal_holds, read_cmp, put_before, put_read, widest, reads_in, reads_of, that, AreWords, listing, valuation_of, IsLeast, IsPossible}
 use Rattle.kn_model.specs.Deciding.{IsPlain, IsPlainTerm, is_false, is_false_on, opposes, opposes_on, some_opposes, clashes, put_one, forced_by, forced}
-use Rattle.kn_model.proofs.Clashing.{both, either, neither, on}
+use Rattle.kn_model.proofs.Clashing.{and_false, both, either, neither, on}
 
 -- the place of an input, node and index, is before that of another
 abbrev pub Under : (n k m j : ℕ) → Type 0
@@ -159,9 +159,6 @@ same_ones : (f g : Places) (rs : List Read) → AllByRecursion (λ (r : Read). f
 same_ones f g [] a = refl
 same_ones f g (r ∷ rs) a = ap (λ (b : Bool). listing r (one_if b) (ones f rs)) a.0 ∙ ap (listing r (one_if (g r.node r.index))) (same_ones f g rs a.1)
 
-one_at : ℕ → ℕ → Given
-one_at n k = record { node = n; index = k; word = 1 }
-
 put_first : (n k : ℕ) (a : Valuation) → AboveAll n k a → put_one n k a ≡ record { node = n; index = k; word = 1 } ∷ a
 put_first n k [] h = refl
 put_first n k (g ∷ a) h = rw (before_true n k g.node g.index h.0) refl
@@ -224,10 +221,6 @@ one_of c n k = some_opposes (on (Input n k 1) false) c
 -- a literal forces its own place, if it is true
 at_itself : (n k width : ℕ) → width ≡ 1 → opposes_on (Input n k 1) false (Input n k width) true ≡ true
 at_itself n k width h = rw (eq-eqb width 1 h, eq-eqb n n refl, eq-eqb k k refl) refl
-
-and_false : (x : Bool) → (x && false) ≡ false
-and_false true = refl
-and_false false = refl
 
 -- a false one forces none
 none_by : (m j n k width : ℕ) → opposes_on (Input m j 1) false (Input n k width) false ≡ false

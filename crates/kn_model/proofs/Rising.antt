@@ -16,7 +16,7 @@ use Rattle.kn_model.specs.Scenarios.{Scenario, name_of, node_at, copied, copies,
 use Rattle.kn_model.specs.Conditions.{AreDistinct}
 use Rattle.kn_model.specs.Reports.{Rises, trace_cmp, ends}
 use Rattle.kn_model.specs.Laws.{IsNet, Before, AreBefore}
-use Rattle.kn_model.proofs.Lists.{all-append, all-filter}
+use Rattle.kn_model.proofs.Lists.{all-append, all-filter, all-flat, all-weaker}
 use Rattle.kn_model.proofs.Parting.{paths_in_order}
 use Rattle.kn_model.proofs.Naming.{Name, Starts, with_bits, length_names, path_trace, copy_name, copy_fits, Goes_on, close_names, opening_length}
 
@@ -143,10 +143,6 @@ abbrev Ordered : {A : Type 0} → (A → A → Type 0) → List A → Type 0
 Ordered R [] = Unit {0}
 Ordered R (x ∷ xs) = AllByRecursion (R x) xs × Ordered R xs
 
-all-weaker : {A : Type 0} (P Q : A → Type 0) → ((x : A) → P x → Q x) → (xs : List A) → AllByRecursion P xs → AllByRecursion Q xs
-all-weaker P Q f [] h = tt
-all-weaker P Q f (x ∷ xs) h = (f x h.0, all-weaker P Q f xs h.1)
-
 -- Where some items are in an order C, and what comes of each follows it by F and is in an order B itself, all that comes is in order B.
 module _ {A : Type 0} (B C F : A → A → Type 0) (lift : (x y u v : A) → C x y → F x u → F y v → B u v) (go : A → List A) where
   abbrev Goes : A → Type 0
@@ -167,10 +163,6 @@ module _ {A : Type 0} (B C F : A → A → Type 0) (lift : (x y u v : A) → C x
   flat_ordered : (xs : List A) → Ordered C xs → AllByRecursion Goes xs → Ordered B (flat_map go xs)
   flat_ordered [] c h = tt
   flat_ordered (x ∷ xs) c h = joined_order x (go x) h.0.0 h.0.1 xs c.0 h.1 (flat_ordered xs c.1 h.1)
-
-all-flat : {A B : Type 0} (Q : B → Type 0) (f : A → List B) (xs : List A) → AllByRecursion (λ x. AllByRecursion Q (f x)) xs → AllByRecursion Q (flat_map f xs)
-all-flat Q f [] h = tt
-all-flat Q f (x ∷ xs) h = all-append Q (f x) (flat_map f xs) h.0 (all-flat Q f xs h.1)
 
 module _ (net : Network) (t : ℕ) (good : IsNet net) where
   abbrev S : Type 0

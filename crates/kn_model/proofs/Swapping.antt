@@ -1,5 +1,5 @@
 -- In which order conditions are joined makes no difference to what is asked of the inputs.
-use Rattle.std.proofs.Common.{◌≡◌, inl, inr, ℕ, zero, suc, ◌+◌, ◌<◌, ◌≤◌, max, Bool, List, [], ◌∷◌, ◌++◌, length, get_or, take, drop, refl, sym, ap, subst, ◌∙◌, arith, append_assoc}
+use Rattle.std.proofs.Common.{◌≡◌, inl, inr, ℕ, zero, suc, ◌+◌, ◌<◌, ◌≤◌, max, Bool, List, [], ◌∷◌, ◌++◌, length, map, get_or, take, drop, refl, sym, ap, subst, ◌∙◌, arith, append_assoc}
 use Rattle.std.specs.Prelude.{◌&&◌, true, false}
 use Rattle.std.specs.declared.cmp.Ordering.{Ordering}
 use Rattle.std.specs.declared.cmp.Ordering.TheVariants.{Less, Equal, Greater}
@@ -7,9 +7,10 @@ use Rattle.std.proofs.lemmas.Bool.{eq-eqb, ne_eqb, lt-ltb, le-ltb}
 use Rattle.std.proofs.lemmas.List.Concat.{flat_map-append}
 use Rattle.std.proofs.Math.Nat.{le-max_left, le-max_right, max-le, max_comm}
 use Rattle.std.proofs.Math.Path.{fun_ext}
-use Rattle.kn_model.specs.Terms.{Valuation}
+use Rattle.kn_model.specs.Terms.{Term, Valuation}
 use Rattle.kn_model.specs.Conditions.{Condition, Read, Query, holds, read_cmp, put_before, put_read, widest, reads_of, that, that_with, IsLeast, IsImpossible}
-use Rattle.kn_model.specs.Deciding.{IsPlain, clashes, forced}
+use Rattle.kn_model.specs.Nodes.{State}
+use Rattle.kn_model.specs.Deciding.{IsPlain, clashes, forced, joined}
 use Rattle.kn_model.proofs.Under.{holds-append}
 use Rattle.kn_model.proofs.Clashing.{clash_is_impossible}
 use Rattle.kn_model.proofs.LeastInputs.{Under, under_on, Place, place, forced_is_least}
@@ -163,3 +164,19 @@ one_and_others_least cs n h p e = subst (λ (q : Query). IsLeast q (forced (all_
 
 pub one_and_others_impossible : (cs : List Condition) (n : ℕ) → n < length cs → clashes (all_of cs) ≡ true → IsImpossible (that_with (get_or cs n []) (alone (take n cs ++ drop (n + 1) cs)))
 one_and_others_impossible cs n h e = subst IsImpossible (sym (one_and_others cs n h)) (clash_is_impossible (all_of cs) e)
+
+-- the own conditions of states, joined, with one of them in front or in its place
+pub joined_append : (ss us : List (State Term)) → joined (ss ++ us) ≡ joined ss ++ joined us
+joined_append [] us = refl
+joined_append (s ∷ ss) us = ap (λ (c : Condition). s.own ++ c) (joined_append ss us) ∙ sym (append_assoc s.own (joined ss) (joined us))
+
+pub joined_is_all_of : (ss : List (State Term)) → joined ss ≡ all_of (map (λ (s : State Term). s.own) ss)
+joined_is_all_of [] = refl
+joined_is_all_of (s ∷ ss) = ap (λ (c : Condition). s.own ++ c) (joined_is_all_of ss)
+
+pub joined_query_moved : (s : State Term) (before after : List (State Term)) → that (s.own ++ joined (before ++ after)) ≡ that (joined (before ++ s ∷ after))
+joined_query_moved s before after =
+    ap (λ (c : Condition). that (s.own ++ c)) (joined_append before after) ∙ (query_swapped s.own (joined before) (joined after) ∙ ap that (sym (joined_append before (s ∷ after))))
+
+pub joined_holds_moved : (a : Valuation) (s : State Term) (before after : List (State Term)) → holds a (s.own ++ joined (before ++ after)) ≡ holds a (joined (before ++ s ∷ after))
+joined_holds_moved a s before after = ap (λ (q : Query). q.meets a) (joined_query_moved s before after)

@@ -13,6 +13,7 @@ IsPlainTerm (Input n k width) = width ≡ 1
 IsPlainTerm (Apply op x y) = ⊥
 IsPlainTerm (Choice c x y) = ⊥
 
+-- each literal is on such a term
 abbrev pub IsPlain : Condition → Type 0
 IsPlain c = AllByRecursion (λ (l : Literal Term). IsPlainTerm l.value) c
 
@@ -23,9 +24,11 @@ is_false_on (Input n k width) truth = false
 is_false_on (Apply op x y) truth = false
 is_false_on (Choice c x y) truth = false
 
+-- a literal that no inputs meet by itself
 abbrev pub is_false : Literal Term → Bool
 is_false l = is_false_on l.value l.truth
 
+-- one is true and the other is not
 abbrev pub differ : Bool → Bool → Bool
 differ true c = not c
 differ false c = c
@@ -35,9 +38,11 @@ abbrev pub opposes_on : Term → Bool → Term → Bool → Bool
 opposes_on (Input n k width) truth (Input m j other) truth' = nat_eq width 1 && (nat_eq other 1 && (nat_eq n m && (nat_eq k j && differ truth truth')))
 opposes_on t truth u truth' = false
 
+-- the same of two literals
 abbrev pub opposes : Literal Term → Literal Term → Bool
 opposes l m = opposes_on l.value l.truth m.value m.truth
 
+-- a literal of the condition opposes this one
 abbrev pub some_opposes : Literal Term → Condition → Bool
 some_opposes l [] = false
 some_opposes l (m ∷ c) = opposes l m || some_opposes l c

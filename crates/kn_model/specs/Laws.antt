@@ -1,5 +1,5 @@
--- The laws of the model, as statements.
-use Rattle.std.specs.Prelude.{◌≡◌, ◌≢◌, ℕ, ◌<◌, ◌≤◌, Bool, true, false, ◌⊎◌, List, [], ◌∷◌, ◌++◌, length, map, filter, flat_map, Contains, Some, None, slice_get}
+-- The laws of the model, as statements. A law is proved where a function of this crate has it as its contract.
+use Rattle.std.specs.Prelude.{◌≡◌, ◌≢◌, ℕ, ◌+◌, slice_index_or, take, drop, ◌<◌, ◌≤◌, Bool, true, false, ◌⊎◌, List, [], ◌∷◌, ◌++◌, length, map, filter, flat_map, Contains, Some, None, slice_get}
 use Rattle.std.specs.List.{AllByRecursion}
 use Rattle.std.specs.Cmp.Lexicographic.{slice_cmp}
 use Rattle.kn_code.specs.declared.program.Instr.{Instr}
@@ -38,6 +38,7 @@ pub record IsNet (net : Network) : Type 0 where
 abbrev pub Coverage : Type 0
 Coverage = (net : Network) (a : Valuation) (t : ℕ) → IsNet net → map (scenario_under a) (filter (λ (s : Scenario Term). holds a s.condition) (cob terms net t)) ≡ concrete net a t
 
+-- The run on inputs is one network.
 abbrev pub OneRun : Type 0
 OneRun = (net : Network) (a : Valuation) (t : ℕ) → length (concrete net a t) ≡ 1
 
@@ -86,8 +87,12 @@ abbrev pub AllNamesApart : List (List (List Bool)) → Type 0
 AllNamesApart [] = Unit {0}
 AllNamesApart (x ∷ xs) = AllByRecursion (NamesApart x) xs × AllNamesApart xs
 
+-- No two members of the copied networks have one name, and so a name has one member.
 abbrev pub DistinctNames : Type 0
 DistinctNames = (net : Network) (t : ℕ) → IsNet net → AllNamesApart (map name_of (cob terms net t))
+
+abbrev pub OneByName : Type 0
+OneByName = (net : Network) (t : ℕ) (s u : Scenario Term) → IsNet net → Contains (cob terms net t) s → Contains (cob terms net t) u → name_of s ≡ name_of u → s ≡ u
 
 -- In a network of at most one tick the names come in their order: node after node, and each trace bit by bit.
 abbrev pub NamesRise : Type 0
@@ -97,7 +102,7 @@ NamesRise = (net : Network) → IsNet net → net.limits.ticks ≤ 1 → Rises (
 abbrev pub HistoriesTell : Type 0
 HistoriesTell = (net : Network) (t n : ℕ) (s : Scenario Term) (y : Node Term) → IsNet net → Contains (cob terms net t) s → slice_get s.nodes n ≡ Some y → node_of terms net n y.history ≡ y
 
--- A scenario's condition implies each node's own condition; a history's own condition implies that of each history that it begins with.
+-- A scenario's condition implies each node's own condition.
 abbrev pub OwnImplied : Type 0
 OwnImplied = (net : Network) (a : Valuation) (t : ℕ) (s : Scenario Term) (y : Node Term) → IsNet net → Contains (cob terms net t) s → Contains s.nodes y → holds a s.condition ≡ true → holds a y.state.own ≡ true
 
@@ -109,6 +114,7 @@ ConditionIsOwn = (net : Network) (a : Valuation) (t : ℕ) (s : Scenario Term) �
 abbrev pub EndsAsMember : Type 0
 EndsAsMember = (net : Network) (a : Valuation) (t : ℕ) (s : Scenario Term) → IsNet net → Contains (cob terms net t) s → holds a (pick_condition s.nodes) ≡ true → concrete net a t ≡ scenario_under a s ∷ []
 
+-- A history's own condition implies that of each history that it begins with.
 abbrev pub BeginningImplied : Type 0
 BeginningImplied = (net : Network) (a : Valuation) (n : ℕ) (h more : History) → holds a (own_of net n (followed h more)) ≡ true → holds a (own_of net n h) ≡ true
 
@@ -167,3 +173,8 @@ ForcedIsLeast = (c : Condition) → IsPlain c → clashes c ≡ false → IsLeas
 -- Columns of one alternative each ask the same of the inputs as one condition that joins them.
 abbrev pub JoinedIsOne : Type 0
 JoinedIsOne = (c : Condition) (ds : List Condition) → that_with c (map (λ (d : Condition). d ∷ []) ds) ≡ that (c ++ flat_map (λ (d : Condition). d) ds)
+
+-- One of some conditions, with the others as such columns, asks what they ask together, whatever the order.
+abbrev pub OneAndOthers : Type 0
+OneAndOthers = (cs : List Condition) (n : ℕ) → n < length cs
+    → that_with (slice_index_or cs n []) (map (λ (d : Condition). d ∷ []) (take n cs ++ drop (n + 1) cs)) ≡ that (flat_map (λ (d : Condition). d) cs)

@@ -1,4 +1,4 @@
--- What each instruction does to a way through an event.
+-- What each instruction does to a way. A way is one course that an event can take, as far as it has come.
 use Rattle.std.specs.Prelude.{ℕ, ◌+◌, Bool, true, if◌then◌else◌, nat_eq, nat_lt, List, [], ◌∷◌, ◌++◌, length, take, drop, Option, Some, None, slice_index_or, slice_set}
 use Rattle.kn_word.specs.declared.Op.{Op}
 use Rattle.kn_word.specs.declared.Op.TheVariants as ops
@@ -27,6 +27,7 @@ pub record Way (V : Type 0) : Type 0 where
   pub literals : List (Literal V)
   pub sends : List (Packet V)
 
+-- what a row does: the way goes on, stops, or decides
 pub data Effect (V : Type 0) : Type 0 where
   Goes : Way V → Effect V
   Stops : Way V → Effect V
@@ -38,32 +39,41 @@ abbrev pub payload_of : {V : Type 0} → Option (Packet V) → List V
 payload_of None = []
 payload_of (Some p) = p.payload
 
+-- 65,535 outside a packet event
 abbrev pub sender_of : {V : Type 0} → Option (Packet V) → ℕ
 sender_of None = 65535
 sender_of (Some p) = p.from
 
 module _ {V : Type 0} (k : Values V) where
+  -- the word of a register
   abbrev pub register : Way V → ℕ → V
   register w a = slice_index_or w.state.registers a (k.word 0)
 
+  -- a register is set
   abbrev pub with_register : Way V → ℕ → V → Way V
   with_register w a x = record w { state = record w.state { registers = slice_set w.state.registers a x } }
 
+  -- the memory is set
   abbrev pub with_memory : Way V → List V → Way V
   with_memory w ms = record w { state = record w.state { memory = ms } }
 
+  -- a timer is set, or unset
   abbrev pub with_timer : Way V → ℕ → Option ℕ → Way V
   with_timer w number o = record w { state = record w.state { timers = slice_set w.state.timers number o } }
 
+  -- the node ends
   abbrev pub with_outcome : Way V → Outcome → Way V
   with_outcome w o = record w { state = record w.state { outcome = o } }
 
+  -- the node fails at this instruction, in this tick
   abbrev pub failed : Here V → FailKind → Way V → Way V
   failed here kind w = with_outcome w (Failed kind w.pc here.tick)
 
+  -- the next instruction comes
   abbrev pub next : Way V → Way V
   next w = record w { pc = w.pc + 1 }
 
+  -- this instruction comes
   abbrev pub jump : Way V → ℕ → Way V
   jump w to = record w { pc = to }
 
@@ -71,6 +81,7 @@ module _ {V : Type 0} (k : Values V) where
   abbrev pub sets : Way V → ℕ → V → Effect V
   sets w a x = Goes (next (with_register w a x))
 
+  -- an operator on two registers
   abbrev pub operate : Op → Way V → (a b c : ℕ) → Effect V
   operate op w a b c = sets w a (k.apply op (register w b) (register w c))
 
@@ -78,9 +89,11 @@ module _ {V : Type 0} (k : Values V) where
   abbrev pub fresh_input : Here V → Way V → ℕ → V
   fresh_input here w width = k.input here.node w.state.inputs width
 
+  -- one more input was made
   abbrev pub counted : Way V → Way V
   counted w = record w { state = record w.state { inputs = w.state.inputs + 1 } }
 
+  -- that a value is not 0
   abbrev pub not_zero : V → Literal V
   not_zero x = record { value = x; truth = true }
 
@@ -94,9 +107,11 @@ module _ {V : Type 0} (k : Values V) where
   with_element index new place [] = []
   with_element index new place (x ∷ xs) = k.choice (k.apply ops.Eq index (k.word place)) new x ∷ with_element index new (place + 1) xs
 
+  -- n words from m on
   abbrev pub span : List V → ℕ → ℕ → List V
   span ms m n = take n (drop m ms)
 
+  -- the index is below n
   abbrev pub in_range : Way V → ℕ → ℕ → Literal V
   in_range w b n = not_zero (k.apply ops.Ult (register w b) (k.word n))
 
@@ -113,9 +128,11 @@ module _ {V : Type 0} (k : Values V) where
     bits = w.bits;
   }
 
+  -- a packet is sent over a link
   abbrev pub sent_on : Here V → List V → Link → Way V → Way V
   sent_on here words link w = record w { state = record w.state { sent = w.state.sent + 1 }; sends = w.sends ++ packet_on here w words link ∷ [] }
 
+  -- and over these, one after another
   abbrev pub sent_over : Here V → List V → List Link → Way V → Way V
   sent_over here words [] w = w
   sent_over here words (l ∷ ls) w = sent_over here words ls (sent_on here words l w)
