@@ -6,6 +6,7 @@ pub mod Stepped
 pub mod Branch
 pub mod Valuations
 pub mod ReportViews
+pub mod Plain
 pub mod Listing
 pub mod Texts
 pub mod Form
