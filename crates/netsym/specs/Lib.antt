@@ -10,3 +10,5 @@ pub mod Plain
 pub mod Listing
 pub mod Texts
 pub mod Form
+pub mod Statuses
+pub mod Runs
