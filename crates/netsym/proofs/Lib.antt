@@ -12,3 +12,4 @@ pub mod Failing
 pub mod Listed
 pub mod Placing
 pub mod Printed
+pub mod FormNet
