@@ -12,3 +12,6 @@ pub use branch::explore;
 pub use scenario::Scenario;
 pub use state::{FailKind, NodeState, Outcome};
 pub use value::{Decision, Value};
+
+#[cfg(test)]
+mod tests;

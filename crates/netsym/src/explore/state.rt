@@ -4,7 +4,7 @@ ghost use Rattle.std.specs.Prelude.{◌≡◌, ◌++◌, map, ◌+◌, ◌-◌, 
 ghost use Rattle.kn_model.specs.Terms.{Word, terms};
 ghost use Rattle.kn_model.specs.Nodes.{is_running, state_of};
 ghost use Rattle.kn_model.specs.Deciding.{IsPlain, clashes};
-ghost use Rattle.netsym.specs.Views.{term_of, literal_of, outcome_of};
+ghost use Rattle.netsym.specs.Views.{term_of, literal_of, outcome_of, is_failed};
 ghost use Rattle.netsym.specs.Branch.{IsQuietState};
 
 use crate::explore::value::{Decision, Value};
@@ -99,6 +99,13 @@ impl NodeState {
         ensures { result ≡ is_running self.now.outcome }
     {
         matches!(self.outcome, Outcome::Running)
+    }
+
+    /// Whether it ended by a failure.
+    pub fn is_failed(&self) -> bool
+        ensures { result ≡ is_failed self.now.outcome }
+    {
+        matches!(self.outcome, Outcome::Failed { .. })
     }
 
     /// How it ended, if it did.

@@ -10,5 +10,5 @@ pub returns : goal.returns
 returns c =
     let here = here_without_mail c.args.net.now c.args.place.node c.args.place.tick in
     let same : filter path_fits (event_paths terms c.args.net.now c.args.place.node c.args.place.tick Boot c.args.state.now) ≡ map (path_of terms) (filter fits (runs_from terms here c.boot-entry.result c.new.result)) =
-    rw (c.boot-entry.ensures, c.program.ensures.value, c.new.ensures, c.set_booted.ensures, c.in_ok-state.ensures) (paths_fit (event_ways terms here Boot (first_way terms (begun terms c.args.place.tick Boot c.args.state.now)))) in
+    rw (c.boot-entry.ensures.value, c.program.ensures.value, c.new.ensures, c.set_booted.ensures, c.in_ok-state.ensures) (paths_fit (event_ways terms here Boot (first_way terms (begun terms c.args.place.tick Boot c.args.state.now)))) in
     rw same c.handle.ensures

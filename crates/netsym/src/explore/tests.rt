@@ -1,0 +1,142 @@
+//! Small networks, explored.
+
+use super::*;
+use crate::net::Net;
+use kn_code::{Instr, Program};
+use std::alloc::Global;
+use std::test::Fail;
+
+/// A node makes an input, and asks whether it is 0.
+fn half(alloc: Global) -> Result<Program, Fail> {
+    let instrs = vec![in alloc;
+        Instr::Input { a: 0, w: 1 },
+        Instr::Brz { a: 0, to: 2 },
+        Instr::Ret,
+    ]?;
+    Ok(Program {
+        instrs,
+        handlers: [
+            Some(0),
+            None,
+            None,
+            None,
+            None,
+            None,
+            None,
+            None,
+            None,
+            None,
+        ],
+    })
+}
+
+/// A node asks whether 1 is 0, and halts where it is not.
+fn constant(alloc: Global) -> Result<Program, Fail> {
+    let instrs = vec![in alloc;
+        Instr::Const { a: 0, n: 1 },
+        Instr::Brz { a: 0, to: 3 },
+        Instr::Halt,
+        Instr::Ret,
+    ]?;
+    Ok(Program {
+        instrs,
+        handlers: [
+            Some(0),
+            None,
+            None,
+            None,
+            None,
+            None,
+            None,
+            None,
+            None,
+            None,
+        ],
+    })
+}
+
+/// A node makes an input, and asserts it.
+fn asserting(alloc: Global) -> Result<Program, Fail> {
+    let instrs = vec![in alloc;
+        Instr::Input { a: 3, w: 1 },
+        Instr::Assert { a: 3 },
+        Instr::Ret,
+    ]?;
+    Ok(Program {
+        instrs,
+        handlers: [
+            Some(0),
+            None,
+            None,
+            None,
+            None,
+            None,
+            None,
+            None,
+            None,
+            None,
+        ],
+    })
+}
+
+/// One node, run for a tick.
+fn alone(alloc: Global, program: Program) -> Result<Net, Fail> {
+    Ok(Net {
+        ticks: 1,
+        programs: vec![in alloc; program]?,
+        nodes: vec![in alloc; 0]?,
+    })
+}
+
+#[test]
+fn two_nodes_have_four_scenarios(rt: HostRuntime) -> Result<(), Fail> {
+    let alloc = rt.alloc();
+    let net = Net {
+        ticks: 1,
+        programs: vec![in alloc; half(alloc)?]?,
+        nodes: vec![in alloc; 0, 0]?,
+    };
+    let list = explore(alloc, &net)?;
+    assert_eq!(rt; list.len(), 4);
+    let wanted = [("0", "0"), ("0", "1"), ("1", "0"), ("1", "1")];
+    for (scenario, (first, second)) in list.iter().zip(wanted) {
+        assert_eq!(rt; scenario.len(), 2);
+        assert_eq!(rt; scenario.state(0).trace().text()?.as_str(), first);
+        assert_eq!(rt; scenario.state(1).trace().text()?.as_str(), second);
+    }
+    Ok(())
+}
+
+#[test]
+fn a_constant_has_one_side(rt: HostRuntime) -> Result<(), Fail> {
+    let alloc = rt.alloc();
+    let net = alone(alloc, constant(alloc)?)?;
+    let list = explore(alloc, &net)?;
+    assert_eq!(rt; list.len(), 1);
+    for scenario in &list {
+        assert_eq!(rt; scenario.len(), 1);
+        assert_eq!(rt; scenario.state(0).outcome(), Outcome::Halted);
+        assert_eq!(rt; scenario.state(0).trace().text()?.as_str(), "0");
+        assert_eq!(rt; scenario.state(0).own().len(), 1);
+    }
+    Ok(())
+}
+
+#[test]
+fn an_assert_can_fail(rt: HostRuntime) -> Result<(), Fail> {
+    let alloc = rt.alloc();
+    let net = alone(alloc, asserting(alloc)?)?;
+    let list = explore(alloc, &net)?;
+    let failed = Outcome::Failed {
+        kind: FailKind::Assert,
+        pc: 1,
+        tick: 0,
+    };
+    assert_eq!(rt; list.len(), 2);
+    for (scenario, wanted) in list.iter().zip([Outcome::Running, failed]) {
+        assert_eq!(rt; scenario.len(), 1);
+        assert_eq!(rt; scenario.state(0).outcome(), wanted);
+        assert_eq!(rt; scenario.state(0).is_failed(), wanted == failed);
+    }
+    Ok(())
+}
