@@ -88,6 +88,8 @@ fn alone(alloc: Global, program: Program) -> Result<Net, Fail> {
     })
 }
 
+fn is_shared<T: Send + Sync>(_x: &T) {}
+
 #[test]
 fn two_nodes_have_four_scenarios(rt: HostRuntime) -> Result<(), Fail> {
     let alloc = rt.alloc();
@@ -97,6 +99,8 @@ fn two_nodes_have_four_scenarios(rt: HostRuntime) -> Result<(), Fail> {
         nodes: vec![in alloc; 0, 0]?,
     };
     let list = explore(alloc, &net)?;
+    is_shared(&net);
+    is_shared(&list);
     assert_eq!(rt; list.len(), 4);
     let wanted = [("0", "0"), ("0", "1"), ("1", "0"), ("1", "1")];
     for (scenario, (first, second)) in list.iter().zip(wanted) {
