@@ -14,3 +14,5 @@ pub mod Placing
 pub mod Printed
 pub mod Making
 pub mod FormNet
+pub mod Words
+pub mod Ends

@@ -1,5 +1,5 @@
 -- What a call of the program does.
-use Rattle.std.specs.Prelude.{◌≡◌, ◌⊎◌, ◌≤◌, ℕ, ◌+◌, List, [], ◌∷◌, ◌++◌, length, map, codes}
+use Rattle.std.specs.Prelude.{◌≡◌, ◌⊎◌, ◌≤◌, ℕ, ◌+◌, List, [], ◌∷◌, ◌++◌, length, map, codes, nat_eq, if◌then◌else◌}
 use Rattle.std.specs.declared.option.Option.{Option}
 use Rattle.std.specs.Io.KnownBytes.{Appends, Consumes, Keeps, IsAtEnd}
 use denote.Ref.{Bor}
@@ -36,6 +36,14 @@ pub record IsReportOn (bytes : List ℕ) (text : List ℕ) (r : Report) : Type 0
   pub given : Gives r net
   pub mapping : r.mapping ≡ Cob
   pub text_is : text ≡ report_text r
+
+-- the text is that of a report on the network, and the status says whether a failure is reached
+pub record IsTold (net : Network) (status : Status) (text : List ℕ) : Type 0 where
+  pub report : Report
+  pub given : Gives report net
+  pub mapping : report.mapping ≡ Cob
+  pub status_is : status ≡ (if nat_eq (reached_in report) 0 then statuses.Clean else statuses.Found)
+  pub text_is : text ≡ report_text report
 
 abbrev pub usage_line : List ℕ
 usage_line = codes "netsym: not a command line\n"

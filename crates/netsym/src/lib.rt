@@ -3,7 +3,13 @@
 
 mod answer;
 mod explore;
+mod form;
 mod net;
+mod output;
 mod report;
 mod status;
+mod top;
 mod valuation;
+
+pub use status::Status;
+pub use top::{run_alone, words_ok};
