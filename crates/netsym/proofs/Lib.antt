@@ -16,3 +16,4 @@ pub mod Making
 pub mod FormNet
 pub mod Words
 pub mod Ends
+pub mod Exactly

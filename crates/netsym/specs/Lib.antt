@@ -12,3 +12,4 @@ pub mod Texts
 pub mod Form
 pub mod Statuses
 pub mod Runs
+pub mod Exact

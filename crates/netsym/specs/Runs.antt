@@ -92,10 +92,3 @@ pub record Runs (words : List (List ℕ)) (left left' taken taken' : Option (Lis
   pub text : List ℕ
   pub right : IsRight words left left' verdict text
   pub written : IsWritten taken taken' text verdict status
-
--- a report was printed, or memory ran out
-abbrev pub IsReported : Status → Type 0
-IsReported statuses.Clean = Unit {0}
-IsReported statuses.Found = Unit {0}
-IsReported statuses.Memory = Unit {0}
-IsReported other = ⊥
