@@ -32,8 +32,9 @@ net_with ticks programs places h = record { delays = tt; timers = h }
 -- it has what the laws of the model need
 pub file_is_net : (bytes : List ℕ) (net : Network) → IsFile bytes net → IsNet net
 file_is_net bytes net file =
-    subst IsNet (sym file.network) (net_with file.text.ticks file.programs file.places (programs_set_later file.text.programs file.programs file.are_programs))
+    let d = file.describes in
+    subst IsNet (sym d.network) (net_with file.text.ticks d.programs d.places (programs_set_later file.text.programs d.programs d.are_programs))
 
 -- it runs at most one tick
 pub file_short : (bytes : List ℕ) (net : Network) → IsFile bytes net → net.limits.ticks ≤ 1
-file_short bytes net file = rw file.network file.ticks
+file_short bytes net file = rw file.describes.network file.counts.ticks

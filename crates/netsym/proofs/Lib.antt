@@ -13,3 +13,4 @@ pub mod Listed
 pub mod Placing
 pub mod Printed
 pub mod FormNet
+pub mod FormTexts

@@ -97,20 +97,32 @@ decisions_of code = sum_by decides code.instrs
 abbrev pub decisions_at : List Code → ℕ → ℕ
 decisions_at programs p = decisions_of (slice_index_or programs p no_code)
 
--- A file of the form, and the network that it describes: at most one tick, 1 to 64 programs with different names, 1 to 64
--- nodes that each name a program, and at most 12 deciding instructions, counted node by node.
-pub record IsFile (bytes : List ℕ) (net : Network) : Type 0 where
-  pub text : FileText
-  pub spelled : bytes ≡ file_bytes text
+-- at most one tick, 1 to 64 programs and 1 to 64 nodes
+pub record HasCounts (text : FileText) : Type 0 where
   pub ticks : text.ticks ≤ 1
   pub some_programs : 1 ≤ length text.programs
   pub most_programs : length text.programs ≤ 64
+  pub some_nodes : 1 ≤ length text.nodes
+  pub most_nodes : length text.nodes ≤ 64
+
+-- The network that the texts describe: programs with different names, nodes that each name a program, and at most 12
+-- deciding instructions, counted node by node.
+pub record Describes (text : FileText) (net : Network) : Type 0 where
   pub programs : List Code
   pub are_programs : ArePrograms text.programs programs
   pub different : AreDifferent (names_of text.programs)
-  pub some_nodes : 1 ≤ length text.nodes
-  pub most_nodes : length text.nodes ≤ 64
   pub places : List ℕ
   pub are_places : ArePlaces (names_of text.programs) text.nodes places
   pub decisions : sum_by (decisions_at programs) places ≤ 12
   pub network : net ≡ network_with text.ticks programs places
+
+-- A file of the form, and the network that it describes.
+pub record IsFile (bytes : List ℕ) (net : Network) : Type 0 where
+  pub text : FileText
+  pub spelled : bytes ≡ file_bytes text
+  pub counts : HasCounts text
+  pub describes : Describes text net
+
+-- bytes are a file of one network alone
+abbrev pub OneNetwork : Type 0
+OneNetwork = (bytes : List ℕ) (net other : Network) → IsFile bytes net → IsFile bytes other → net ≡ other

@@ -9,3 +9,5 @@ pub mod ReportViews
 pub mod Listing
 pub mod Texts
 pub mod Form
+pub mod FormReading
+pub mod FormViews

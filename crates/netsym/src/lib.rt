@@ -2,6 +2,7 @@
 #![tactic(auto)]
 
 mod explore;
+mod form;
 mod net;
 mod report;
 mod valuation;
