@@ -7,7 +7,7 @@ use Rattle.kn_code.specs.Code.{Code, IsInstr, IsValid, Stands, AllWithLeft}
 use Rattle.kn_model.specs.Nets.{Network}
 use Rattle.kn_model.specs.Laws.{IsNet, SetsLater}
 use Rattle.netsym.specs.Plans.{network_with}
-use Rattle.netsym.specs.Form.{ProgramText, IsProgramOf, ArePrograms, IsFile}
+use Rattle.netsym.specs.Form.{ProgramText, IsProgramOf, EachOf, IsFile}
 
 sets_later : (count : ℕ) (i : Instr) → IsInstr count i → SetsLater i
 sets_later count (Timer k d) h = absurd h
@@ -18,7 +18,7 @@ all_set_later count [] h = tt
 all_set_later count (i ∷ is) h = (sets_later count i h.0.0, all_set_later count is h.1)
 
 -- no timer is set in the programs of a file
-programs_set_later : (texts : List ProgramText) (programs : List Code) → ArePrograms texts programs
+programs_set_later : (texts : List ProgramText) (programs : List Code) → EachOf IsProgramOf texts programs
     → AllByRecursion (λ (c : Code). AllByRecursion SetsLater c.instrs) programs
 programs_set_later [] [] h = tt
 programs_set_later [] (c ∷ cs) h = absurd h

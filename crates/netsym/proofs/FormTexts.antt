@@ -266,9 +266,6 @@ whole_is : (ticks : ℕ) (programs : Front (List ProgramText)) (nodes : Front (L
     → (1 ≤ length programs.value) × (1 ≤ length nodes.value) × (nodes.rest ≡ []) × (record { ticks = ticks; programs = programs.value; nodes = nodes.value } ≡ f)
 whole_is ticks programs nodes f = go (eqb (length programs.value) 0) refl (eqb (length nodes.value) 0) refl (eqb (length nodes.rest) 0) refl
   where
-    text : FileText
-    text = record { ticks = ticks; programs = programs.value; nodes = nodes.value }
-
     some_of : (n : ℕ) → eqb n 0 ≡ false → 1 ≤ n
     some_of zero e = absurd (let wrong : true ≡ false = e in cc)
     some_of (suc n) e = omega arith

@@ -14,3 +14,5 @@ pub mod Placing
 pub mod Printed
 pub mod FormNet
 pub mod FormTexts
+pub mod FormLeft
+pub mod FormPrograms

@@ -3,6 +3,8 @@
 use std::alloc::AllocError;
 use thiserror::Error;
 
+mod network;
+mod program;
 mod text;
 
 /// Why no network is read.
