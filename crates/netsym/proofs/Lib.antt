@@ -16,3 +16,4 @@ pub mod FormNet
 pub mod FormTexts
 pub mod FormLeft
 pub mod FormPrograms
+pub mod FormNetworks

@@ -17,8 +17,12 @@ program_text p = record { name = p.name.now; code = p.code.now }
 abbrev pub file_text : FileLines → FileText
 file_text f = record { ticks = f.ticks; programs = map program_text f.programs.items; nodes = map text_bytes f.nodes.items }
 
--- what is said of what a result gives, or what holds where the file is not of the form; nothing is said where memory ran out
+-- what holds where the fault says that the file is not of the form; nothing is said where memory ran out
+abbrev pub Refuses : FormFault → Type 0 → Type 0
+Refuses faults.NotForm Refused = Refused
+Refuses (faults.Memory e) Refused = Unit {0}
+
+-- what is said of what a result gives, or of a refusal
 abbrev pub Finds : {X : Type 0} → Result X FormFault → (X → Type 0) → Type 0 → Type 0
 Finds (Ok x) Found Refused = Found x
-Finds (Err faults.NotForm) Found Refused = Refused
-Finds (Err (faults.Memory e)) Found Refused = Unit {0}
+Finds (Err fault) Found Refused = Refuses fault Refused
