@@ -17,3 +17,4 @@ pub mod FormTexts
 pub mod FormLeft
 pub mod FormPrograms
 pub mod FormNetworks
+pub mod FormFiles
