@@ -176,13 +176,13 @@ program_places : (texts : List ProgramText) (programs : List Code) (nodes : List
     → AllByRecursion (λ (p : ℕ). p < length programs) places
 program_places texts programs nodes places h k =
     each_holds (IsPlaceOf (names_of texts)) (λ (p : ℕ). p < length programs)
-      (λ name p e. omega (arith, slice_get_within (names_of texts) p name e, length-map texts (λ (t : ProgramText). t.name), each_length IsProgramOf texts programs h)) nodes places k
+    (λ name p e. omega (arith, slice_get_within (names_of texts) p name e, length-map texts (λ (t : ProgramText). t.name), each_length IsProgramOf texts programs h)) nodes places k
 
 pub places_inside : (texts : List ProgramText) (programs others : List Code) (nodes : List (List ℕ)) (places those : List ℕ) → EachOf IsProgramOf texts programs → EachOf (IsPlaceOf (names_of texts)) nodes places
     → others ≡ programs → those ≡ places → All (λ (p : ℕ). p < length others) those
 places_inside texts programs others nodes places those h k e d =
     subst (λ (l : List ℕ). All (λ (p : ℕ). p < length others) l) (sym d)
-      (subst (λ (l : List Code). All (λ (p : ℕ). p < length l) places) (sym e) (All-from_recursion (λ (p : ℕ). p < length programs) places (program_places texts programs nodes places h k)))
+    (subst (λ (l : List Code). All (λ (p : ℕ). p < length l) places) (sym e) (All-from_recursion (λ (p : ℕ). p < length programs) places (program_places texts programs nodes places h k)))
 
 -- the same of the texts, where a slice holds them
 pub seen_programs : (ls lines : List ProgramLines) (programs : List Code) → ls ≡ lines → EachOf IsProgramOf (map program_text ls) programs → EachOf IsProgramOf (map program_text lines) programs
@@ -192,7 +192,7 @@ pub seen_places : (ls lines : List ProgramLines) (ns names : List (Bor (List ℕ
     → EachOf (IsPlaceOf (lines_names lines)) (map text_bytes names) places
 seen_places ls lines ns names places e d h =
     subst (λ (l : List ProgramLines). EachOf (IsPlaceOf (lines_names l)) (map text_bytes names) places) e
-      (subst (λ (l : List (Bor (List ℕ))). EachOf (IsPlaceOf (lines_names ls)) (map text_bytes l) places) d h)
+    (subst (λ (l : List (Bor (List ℕ))). EachOf (IsPlaceOf (lines_names ls)) (map text_bytes l) places) d h)
 
 -- where a name has no place, no network is described
 pub no_places : (text : FileLines) (ls : List ProgramLines) (ns : List (Bor (List ℕ))) → ls ≡ text.programs.items → ns ≡ text.nodes.items
@@ -213,6 +213,6 @@ none_described text programs others places those r h k e d few wrong net all =
     let same : all.programs ≡ others = each_once IsProgramOf program_once text.programs all.programs programs all.are_programs h ∙ sym e in
     let alike : all.places ≡ those = each_once (IsPlaceOf (names_of text.programs)) (place_once (names_of text.programs) all.different) text.nodes all.places places all.are_places k ∙ sym d in
     let little : sum_by (decisions_at others) those ≤ 12 =
-        subst (λ (l : List ℕ). sum_by (decisions_at others) l ≤ 12) alike (subst (λ (l : List Code). sum_by (decisions_at l) all.places ≤ 12) same all.decisions) in
+    subst (λ (l : List ℕ). sum_by (decisions_at others) l ≤ 12) alike (subst (λ (l : List Code). sum_by (decisions_at l) all.places ≤ 12) same all.decisions) in
     let never : false ≡ true = sym wrong ∙ few.1 little in
     absurd cc

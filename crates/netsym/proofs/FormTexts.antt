@@ -31,11 +31,12 @@ pub groups_step : {X A : Type 0} (front : List ℕ → Option (Front A)) (view :
 groups_step front view xs ys x bytes more room e h all =
     let long : length ys ≡ length xs + 1 = ap length e ∙ length_push xs x in
     let seen : map view ys ≡ map view xs ++ view x ∷ [] = ap (map view) e ∙ map-append view xs (x ∷ []) in
-    let less : 64 - length xs ≡ suc (64 - length ys) = omega arith in
-    (omega arith,
+    let less : 64 - length xs ≡ suc (64 - length ys) = omega arith in (
+      omega arith,
       ap (λ l. groups front (64 - length ys) l more) seen
-      ∙ sym (groups_more front (64 - length xs) (64 - length ys) (map view xs) bytes (record { value = view x; rest = more }) less h)
-      ∙ all)
+          ∙ sym (groups_more front (64 - length xs) (64 - length ys) (map view xs) bytes (record { value = view x; rest = more }) less h)
+          ∙ all,
+    )
 
 pub groups_full : {X A : Type 0} (front : List ℕ → Option (Front A)) (view : X → A) (xs : List X) (bytes : List ℕ) → length xs ≡ 64
     → groups front (64 - length xs) (map view xs) bytes ≡ record { value = map view xs; rest = bytes }
@@ -92,7 +93,7 @@ quoted_reads : (key text rest : List ℕ) → NoQuote text → quoted key (key +
 quoted_reads key text rest h =
     let line = text ++ (codes "\"\n" ++ rest) in
     let ended : after (codes "\"\n") (drop (length text) line) ≡ Some rest =
-        ap (after (codes "\"\n")) (drop_at text (codes "\"\n" ++ rest) (length text) refl) ∙ after_front (codes "\"\n") rest in
+    ap (after (codes "\"\n")) (drop_at text (codes "\"\n" ++ rest) (length text) refl) ∙ after_front (codes "\"\n") rest in
     quoted_by key (key ++ line) line rest (length text) (after_front key line) (first_quote_is text (10 ∷ rest) h) ended
     ∙ ap (λ (l : List ℕ). Some (record { value = l; rest = rest })) (take_at text (codes "\"\n" ++ rest) (length text) refl)
 
@@ -111,7 +112,7 @@ quoted_is key bytes x h =
     let rest = bind_some (after (codes "\"\n") (drop end.0 line.0)) (found line.0 end.0) x end.2 in
     let same : record { value = take end.0 line.0; rest = rest.0 } ≡ x = some_is (record { value = take end.0 line.0; rest = rest.0 }) x rest.2 in
     let cut : line.0 ≡ take end.0 line.0 ++ (codes "\"\n" ++ rest.0) =
-        sym (take-append-drop end.0 line.0) ∙ ap (λ l. take end.0 line.0 ++ l) (after_is (codes "\"\n") (drop end.0 line.0) rest.0 rest.1) in
+    sym (take-append-drop end.0 line.0) ∙ ap (λ l. take end.0 line.0 ++ l) (after_is (codes "\"\n") (drop end.0 line.0) rest.0 rest.1) in
     after_is key bytes line.0 line.1 ∙ ap (λ l. key ++ l) (cut ∙ ap (λ (y : Front (List ℕ)). y.value ++ (codes "\"\n" ++ y.rest)) same)
 
 -- ---- one group
@@ -120,8 +121,8 @@ program_line : (p : ProgramText) (rest : List ℕ)
     → program_bytes p ++ rest ≡ codes "[[program]]\n" ++ (codes "name = \"" ++ (p.name ++ (codes "\"\n" ++ (codes "code = \"" ++ (p.code ++ (codes "\"\n" ++ rest))))))
 program_line p rest =
     ap (λ l. codes "[[program]]\nname = \"" ++ l)
-      (append_assoc p.name (codes "\"\ncode = \"" ++ (p.code ++ codes "\"\n")) rest
-      ∙ ap (λ l. p.name ++ (codes "\"\ncode = \"" ++ l)) (append_assoc p.code (codes "\"\n") rest))
+    (append_assoc p.name (codes "\"\ncode = \"" ++ (p.code ++ codes "\"\n")) rest
+    ∙ ap (λ l. p.name ++ (codes "\"\ncode = \"" ++ l)) (append_assoc p.code (codes "\"\n") rest))
 
 node_line : (name rest : List ℕ) → node_bytes name ++ rest ≡ codes "[[node]]\n" ++ (codes "program = \"" ++ (name ++ (codes "\"\n" ++ rest)))
 node_line name rest = ap (λ l. codes "[[node]]\nprogram = \"" ++ l) (append_assoc name (codes "\"\n") rest)
@@ -140,7 +141,7 @@ program_reads p rest h =
     let lines = codes "name = \"" ++ (p.name ++ (codes "\"\n" ++ last)) in
     ap program_front (program_line p rest)
     ∙ program_by (codes "[[program]]\n" ++ lines) lines (record { value = p.name; rest = last }) (record { value = p.code; rest = rest })
-        (after_front (codes "[[program]]\n") lines) (quoted_reads (codes "name = \"") p.name last h.0) (quoted_reads (codes "code = \"") p.code rest h.1)
+    (after_front (codes "[[program]]\n") lines) (quoted_reads (codes "name = \"") p.name last h.0) (quoted_reads (codes "code = \"") p.code rest h.1)
 
 program_is : (bytes : List ℕ) (x : Front ProgramText) → program_front bytes ≡ Some x → bytes ≡ program_bytes x.value ++ x.rest
 unfolding program_front
@@ -195,7 +196,7 @@ groups_read front spell Fits reads [] n done tail h most e =
 groups_read front spell Fits reads (x ∷ xs) zero done tail h most e = absurd (omega (arith, most))
 groups_read front spell Fits reads (x ∷ xs) (suc n) done tail h most e =
     let whole : flat_map spell (x ∷ xs) ++ tail ≡ spell x ++ (flat_map spell xs ++ tail) =
-        ap (λ l. l ++ tail) (flat_map-cons spell x xs) ∙ append_assoc (spell x) (flat_map spell xs) tail in
+    ap (λ l. l ++ tail) (flat_map-cons spell x xs) ∙ append_assoc (spell x) (flat_map spell xs) tail in
     ap (groups front (suc n) done) whole
     ∙ groups_more front (suc n) n done (spell x ++ (flat_map spell xs ++ tail)) (record { value = x; rest = flat_map spell xs ++ tail }) refl (reads x (flat_map spell xs ++ tail) h.0)
     ∙ groups_read front spell Fits reads xs n (done ++ x ∷ []) tail h.1 (omega (arith, most)) e
@@ -224,9 +225,9 @@ groups_are front spell is (suc n) done bytes = go (front bytes) refl (groups_are
           items = x.value ∷ r.items;
           value = r.value ∙ append_assoc done (x.value ∷ []) r.items;
           spelled =
-            is bytes x e ∙ ap (λ l. spell x.value ++ l) r.spelled
-            ∙ sym (append_assoc (spell x.value) (flat_map spell r.items) (groups front n (done ++ x.value ∷ []) x.rest).rest)
-            ∙ ap (λ l. l ++ (groups front n (done ++ x.value ∷ []) x.rest).rest) (sym (flat_map-cons spell x.value r.items));
+              is bytes x e ∙ ap (λ l. spell x.value ++ l) r.spelled
+              ∙ sym (append_assoc (spell x.value) (flat_map spell r.items) (groups front n (done ++ x.value ∷ []) x.rest).rest)
+              ∙ ap (λ l. l ++ (groups front n (done ++ x.value ∷ []) x.rest).rest) (sym (flat_map-cons spell x.value r.items));
           most = omega (arith, r.most);
         }
 
@@ -297,10 +298,10 @@ text_read f counts h =
     let nodes_part = flat_map node_bytes f.nodes in
     let rest = flat_map program_bytes f.programs ++ nodes_part in
     let programs : groups program_front 64 [] rest ≡ record { value = f.programs; rest = nodes_part } =
-        groups_read program_front program_bytes HoldsNoQuote program_reads f.programs 64 [] nodes_part h.0 counts.most_programs (no_program_after f.nodes) in
+    groups_read program_front program_bytes HoldsNoQuote program_reads f.programs 64 [] nodes_part h.0 counts.most_programs (no_program_after f.nodes) in
     let nodes : groups node_front 64 [] nodes_part ≡ record { value = f.nodes; rest = [] } =
-        ap (groups node_front 64 []) (sym (append-nil nodes_part))
-        ∙ groups_read node_front node_bytes NoQuote node_reads f.nodes 64 [] [] h.1 counts.most_nodes no_node_at_end in
+    ap (groups node_front 64 []) (sym (append-nil nodes_part))
+    ∙ groups_read node_front node_bytes NoQuote node_reads f.nodes 64 [] [] h.1 counts.most_nodes no_node_at_end in
     text_by (file_bytes f) (record { value = f.ticks; rest = rest }) (ticks_read f.ticks rest counts.ticks)
     ∙ ap (λ (g : Front (List ProgramText)). whole_text f.ticks g (groups node_front 64 [] g.rest)) programs
     ∙ ap (λ (g : Front (List (List ℕ))). whole_text f.ticks (record { value = f.programs; rest = nodes_part }) g) nodes
@@ -318,11 +319,11 @@ text_is bytes f h =
     let n = groups_are node_front node_bytes node_is 64 [] ps.rest in
     let w = whole_is start.0.value ps ns f start.2 in
     let last : ps.rest ≡ flat_map node_bytes ns.value =
-        n.spelled ∙ ap (λ l. flat_map node_bytes n.items ++ l) w.2 ∙ append-nil (flat_map node_bytes n.items) ∙ ap (flat_map node_bytes) (sym n.value) in
+    n.spelled ∙ ap (λ l. flat_map node_bytes n.items ++ l) w.2 ∙ append-nil (flat_map node_bytes n.items) ∙ ap (flat_map node_bytes) (sym n.value) in
     let rest : start.0.rest ≡ flat_map program_bytes ps.value ++ flat_map node_bytes ns.value =
-        p.spelled ∙ ap (λ l. flat_map program_bytes l ++ ps.rest) (sym p.value) ∙ ap (λ l. flat_map program_bytes ps.value ++ l) last in
+    p.spelled ∙ ap (λ l. flat_map program_bytes l ++ ps.rest) (sym p.value) ∙ ap (λ l. flat_map program_bytes ps.value ++ l) last in
     let programs_most : length ps.value ≤ 64 = omega (arith, p.most, ap length p.value) in
     let nodes_most : length ns.value ≤ 64 = omega (arith, n.most, ap length n.value) in
     let counts : HasCounts (record { ticks = start.0.value; programs = ps.value; nodes = ns.value }) =
-        record { ticks = t.0; some_programs = w.0; most_programs = programs_most; some_nodes = w.1; most_nodes = nodes_most } in
+    record { ticks = t.0; some_programs = w.0; most_programs = programs_most; some_nodes = w.1; most_nodes = nodes_most } in
     subst (λ (g : FileText). (bytes ≡ file_bytes g) × HasCounts g) w.3 (t.1 ∙ ap (file_start start.0.value) rest, counts)

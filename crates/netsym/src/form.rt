@@ -12,6 +12,8 @@ use thiserror::Error;
 
 mod network;
 mod program;
+#[cfg(test)]
+mod tests;
 mod text;
 
 /// Why no network is read: the bytes are no file of the form, or memory ran out. `read_form` says what the form is.

@@ -58,7 +58,11 @@ fn programs_of(alloc: Global, lines: &[ProgramLines]) -> Result<Vec<Program>, Fo
 }
 
 /// The place of each node's program.
-fn places_of(alloc: Global, programs: &[ProgramLines], nodes: &[&[u8]]) -> Result<Vec<usize>, FormFault>
+fn places_of(
+    alloc: Global,
+    programs: &[ProgramLines],
+    nodes: &[&[u8]],
+) -> Result<Vec<usize>, FormFault>
     ensures { Finds result (λ v. EachOf (IsPlaceOf (names_of (map program_text programs.now))) (map text_bytes nodes.now) v.items) ((places : List ℕ) → EachOf (IsPlaceOf (names_of (map program_text programs.now))) (map text_bytes nodes.now) places → ⊥) }
 {
     let mut places = Vec::new(alloc);
@@ -84,7 +88,11 @@ fn decisions_in(program: &Program) -> usize
     ensures count { result ≡ decisions_of program.now }
     ensures most { result ≤ 4096 }
 {
-    program.instrs.iter().filter(|instr| is_decision(*instr)).count()
+    program
+        .instrs
+        .iter()
+        .filter(|instr| is_decision(*instr))
+        .count()
 }
 
 /// Whether few enough instructions decide.
@@ -121,5 +129,9 @@ pub fn net_of(alloc: Global, text: &FileLines) -> Result<Net, FormFault>
     if !decides_little(&programs, &nodes) {
         return Err(FormFault::NotForm);
     }
-    Ok(Net { ticks: text.ticks, programs, nodes })
+    Ok(Net {
+        ticks: text.ticks,
+        programs,
+        nodes,
+    })
 }

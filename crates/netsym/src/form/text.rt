@@ -86,7 +86,10 @@ fn ticks_at<'a>(bytes: &'a [u8]) -> Option<(u32, &'a [u8])>
 }
 
 /// The programs at the front, at most 64, and what follows them.
-fn programs_at<'a>(alloc: Global, bytes: &'a [u8]) -> Result<(Vec<ProgramLines<'a>>, &'a [u8]), AllocError>
+fn programs_at<'a>(
+    alloc: Global,
+    bytes: &'a [u8],
+) -> Result<(Vec<ProgramLines<'a>>, &'a [u8]), AllocError>
     ensures { IfOk result (λ both. groups program_front 64 [] bytes.now ≡ record { value = map program_text both.0.items; rest = both.1.now }) }
 {
     let mut programs = Vec::new(alloc);
@@ -135,5 +138,9 @@ pub fn read_text<'a>(alloc: Global, bytes: &'a [u8]) -> Result<FileLines<'a>, Fo
     if programs.is_empty() || nodes.is_empty() || !rest.is_empty() {
         return Err(FormFault::NotForm);
     }
-    Ok(FileLines { ticks, programs, nodes })
+    Ok(FileLines {
+        ticks,
+        programs,
+        nodes,
+    })
 }

@@ -18,4 +18,4 @@ returns-clause-found c =
 pub returns-clause-none : goal.returns-clause-none
 returns-clause-none c =
     none_in (Describes (file_text c.in-Ok.text)) ((net : Network) → Describes (file_text c.in-Ok.text) net → ⊥) ((net : Network) → IsFile c.args.bytes.now net → ⊥) c.net_of.result
-      (not_described c.args.bytes.now (file_text c.in-Ok.text) c.in-Ok.ensures) c.net_of.ensures
+    (not_described c.args.bytes.now (file_text c.in-Ok.text) c.in-Ok.ensures) c.net_of.ensures

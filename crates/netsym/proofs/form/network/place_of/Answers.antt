@@ -10,7 +10,7 @@ returns-then-eq c = found_here c.args.programs.now c.loop-place.place _ c.args.n
 pub loop-place-preserved : goal.loop-place-preserved
 loop-place-preserved c =
     below_next (λ (k : ℕ). IsPlaceOf (names_of (map program_text c.args.programs.now)) c.args.name.now k → ⊥) c.loop-place.place c.loop-place.invariant
-      (not_here c.args.programs.now c.loop-place.place _ c.args.name.now c.eq.result (omega arith) c.eq.ensures c.if-eq.false)
+    (not_here c.args.programs.now c.loop-place.place _ c.args.name.now c.eq.result (omega arith) c.eq.ensures c.if-eq.false)
 
 pub returns : goal.returns
 returns c = λ place h.

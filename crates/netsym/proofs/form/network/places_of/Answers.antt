@@ -11,4 +11,4 @@ returns-in_default c =
 pub loop-name-preserved : goal.loop-name-preserved
 loop-name-preserved c =
     each_more (IsPlaceOf (names_of (map program_text c.args.programs.now))) text_bytes c.args.nodes.now c.loop-name.name-index _ c.loop-name.places.items c.push.new.self.items c.in-Some.place (omega arith)
-      c.loop-name.invariant c.in-Some.ensures c.in-Ok.ensures.items
+    c.loop-name.invariant c.in-Some.ensures c.in-Ok.ensures.items

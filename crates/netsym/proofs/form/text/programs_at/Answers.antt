@@ -13,8 +13,8 @@ pub returns : goal.returns
 returns c =
     elim c.loop-rest-test.branch [
       | else-loop-rest-test w ↦
-        let full : length c.loop-rest.programs.items ≡ 64 = omega (arith, c.loop-rest.invariant.0, w.loop-rest-test.false) in
-        sym c.loop-rest.invariant.1 ∙ groups_full program_front program_text c.loop-rest.programs.items c.loop-rest.rest.now full
+          let full : length c.loop-rest.programs.items ≡ 64 = omega (arith, c.loop-rest.invariant.0, w.loop-rest-test.false) in
+          sym c.loop-rest.invariant.1 ∙ groups_full program_front program_text c.loop-rest.programs.items c.loop-rest.rest.now full
       | then-loop-rest-test+in_default w ↦
-        sym c.loop-rest.invariant.1 ∙ groups_done program_front program_text c.loop-rest.programs.items c.loop-rest.rest.now w.in_default.ensures
+          sym c.loop-rest.invariant.1 ∙ groups_done program_front program_text c.loop-rest.programs.items c.loop-rest.rest.now w.in_default.ensures
     ]
