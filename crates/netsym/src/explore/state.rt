@@ -126,7 +126,7 @@ impl NodeState {
     pub fn own(&self) -> &[Decision]
         ensures value { map literal_of result.now ≡ self.now.own }
         ensures plain { IsPlain self.now.own }
-        ensures open { clashes self.now.own ≡ false }
+        ensures fits { clashes self.now.own ≡ false }
     {
         &self.own
     }
