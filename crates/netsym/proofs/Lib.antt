@@ -14,6 +14,9 @@ pub mod Placing
 pub mod Printed
 pub mod Making
 pub mod FormNet
+pub mod Words
+pub mod Ends
+pub mod Exactly
 pub mod FormTexts
 pub mod FormLeft
 pub mod FormPrograms

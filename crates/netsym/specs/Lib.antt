@@ -15,3 +15,8 @@ pub mod FormViews
 pub mod Statuses
 pub mod Runs
 pub mod Exact
+pub mod Statuses
+pub mod Runs
+pub mod Exact
+pub mod FormReading
+pub mod FormViews

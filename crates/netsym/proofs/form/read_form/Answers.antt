@@ -10,7 +10,7 @@ pub returns-in_err-text-clause-none : goal.returns-in_err-text-clause-none
 returns-in_err-text-clause-none c =
     let p = err_from_is_err_and c.from_residual.result c.from_residual.ensures.1 in
     rw (p.1, p.2)
-      (none_in {X = Network} (λ net. IsFile c.args.bytes.now net) _ ((net : Network) → IsFile c.args.bytes.now net → ⊥) (Err c.in_err-text.field-0.0) (not_read c.args.bytes.now) c.in_err-text.ensures)
+    (none_in {X = Network} (λ net. IsFile c.args.bytes.now net) _ ((net : Network) → IsFile c.args.bytes.now net → ⊥) (Err c.in_err-text.field-0.0) (not_read c.args.bytes.now) c.in_err-text.ensures)
 
 pub net_of-requires : goal.net_of-requires
 net_of-requires c = counts_of c.args.bytes.now (file_text c.in_ok-text.text) c.in_ok-text.ensures

@@ -12,8 +12,8 @@ pub returns-in_err-nodes : goal.returns-in_err-nodes
 returns-in_err-nodes c =
     let p = err_from_is_err_and c.from_residual-in_err-nodes.result c.from_residual-in_err-nodes.ensures.1 in
     rw (p.1, p.2)
-      (refused_too c.in_err-nodes.field-0.0 _ ((net : Network) → Describes (file_text c.args.text.now) net → ⊥)
-        (no_places c.args.text.now c.deref-3.result.now c.deref-4.result.now c.deref-3.ensures.value c.deref-4.ensures.value) c.in_err-nodes.ensures)
+    (refused_too c.in_err-nodes.field-0.0 _ ((net : Network) → Describes (file_text c.args.text.now) net → ⊥)
+    (no_places c.args.text.now c.deref-3.result.now c.deref-4.result.now c.deref-3.ensures.value c.deref-4.ensures.value) c.in_err-nodes.ensures)
 
 pub decides_little-requires : goal.decides_little-requires
 decides_little-requires c =

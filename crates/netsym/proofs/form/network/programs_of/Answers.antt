@@ -10,8 +10,8 @@ pub returns-in_err-program : goal.returns-in_err-program
 returns-in_err-program c =
     let p = err_from_is_err_and c.from_residual.result c.from_residual.ensures.1 in
     rw (p.1, p.2)
-      (refused_too c.in_err-program.field-0.0 _ ((codes : List Code) → EachOf IsProgramOf (map program_text c.args.lines.now) codes → ⊥)
-        (none_for_one IsProgramOf program_text c.args.lines.now c.loop-text.text-index _ (omega arith)) c.in_err-program.ensures)
+    (refused_too c.in_err-program.field-0.0 _ ((codes : List Code) → EachOf IsProgramOf (map program_text c.args.lines.now) codes → ⊥)
+    (none_for_one IsProgramOf program_text c.args.lines.now c.loop-text.text-index _ (omega arith)) c.in_err-program.ensures)
 
 pub loop-text-preserved : goal.loop-text-preserved
 loop-text-preserved c =
