@@ -102,6 +102,12 @@ bind_some : {A B : Type 0} (o : Option A) (f : A → Option B) (y : B) → (o >>
 bind_some None f y e = absurd cc
 bind_some (Some x) f y e = (x, refl, e)
 
+quoted_from : (key bytes line rest : List ℕ) (end : ℕ) (x : Front (List ℕ)) → after key bytes ≡ Some line → after (codes "\"\n") (drop end line) ≡ Some rest → record { value = take end line; rest = rest } ≡ x
+    → bytes ≡ key ++ (x.value ++ (codes "\"\n" ++ x.rest))
+quoted_from key bytes line rest end x a b same =
+    let cut : line ≡ take end line ++ (codes "\"\n" ++ rest) = sym (take-append-drop end line) ∙ ap (λ l. take end line ++ l) (after_is (codes "\"\n") (drop end line) rest b) in
+    after_is key bytes line a ∙ ap (λ l. key ++ l) (cut ∙ ap (λ (y : Front (List ℕ)). y.value ++ (codes "\"\n" ++ y.rest)) same)
+
 quoted_is : (key bytes : List ℕ) (x : Front (List ℕ)) → quoted key bytes ≡ Some x → bytes ≡ key ++ (x.value ++ (codes "\"\n" ++ x.rest))
 unfolding quoted
 quoted_is key bytes x h =
@@ -110,10 +116,7 @@ quoted_is key bytes x h =
     let line = bind_some (after key bytes) (λ (l : List ℕ). position (λ (c : ℕ). eqb c 34) l >>= ended l) x h in
     let end = bind_some (position (λ (c : ℕ). eqb c 34) line.0) (ended line.0) x line.2 in
     let rest = bind_some (after (codes "\"\n") (drop end.0 line.0)) (found line.0 end.0) x end.2 in
-    let same : record { value = take end.0 line.0; rest = rest.0 } ≡ x = some_is (record { value = take end.0 line.0; rest = rest.0 }) x rest.2 in
-    let cut : line.0 ≡ take end.0 line.0 ++ (codes "\"\n" ++ rest.0) =
-    sym (take-append-drop end.0 line.0) ∙ ap (λ l. take end.0 line.0 ++ l) (after_is (codes "\"\n") (drop end.0 line.0) rest.0 rest.1) in
-    after_is key bytes line.0 line.1 ∙ ap (λ l. key ++ l) (cut ∙ ap (λ (y : Front (List ℕ)). y.value ++ (codes "\"\n" ++ y.rest)) same)
+    quoted_from key bytes line.0 rest.0 end.0 x line.1 rest.1 (some_is (record { value = take end.0 line.0; rest = rest.0 }) x rest.2)
 
 -- ---- one group
 
@@ -143,6 +146,16 @@ program_reads p rest h =
     ∙ program_by (codes "[[program]]\n" ++ lines) lines (record { value = p.name; rest = last }) (record { value = p.code; rest = rest })
     (after_front (codes "[[program]]\n") lines) (quoted_reads (codes "name = \"") p.name last h.0) (quoted_reads (codes "code = \"") p.code rest h.1)
 
+program_from : (bytes lines : List ℕ) (name code : Front (List ℕ)) (x : Front ProgramText) → after (codes "[[program]]\n") bytes ≡ Some lines → quoted (codes "name = \"") lines ≡ Some name
+    → quoted (codes "code = \"") name.rest ≡ Some code → record { value = record { name = name.value; code = code.value }; rest = code.rest } ≡ x → bytes ≡ program_bytes x.value ++ x.rest
+program_from bytes lines name code x a b c same =
+    let y : Front ProgramText = record { value = record { name = name.value; code = code.value }; rest = code.rest } in
+    after_is (codes "[[program]]\n") bytes lines a
+    ∙ ap (λ l. codes "[[program]]\n" ++ l) (quoted_is (codes "name = \"") lines name b)
+    ∙ ap (λ l. codes "[[program]]\n" ++ (codes "name = \"" ++ (name.value ++ (codes "\"\n" ++ l)))) (quoted_is (codes "code = \"") name.rest code c)
+    ∙ sym (program_line y.value y.rest)
+    ∙ ap (λ (z : Front ProgramText). program_bytes z.value ++ z.rest) same
+
 program_is : (bytes : List ℕ) (x : Front ProgramText) → program_front bytes ≡ Some x → bytes ≡ program_bytes x.value ++ x.rest
 unfolding program_front
 program_is bytes x h =
@@ -152,11 +165,7 @@ program_is bytes x h =
     let name = bind_some (quoted (codes "name = \"") lines.0) coded x lines.2 in
     let code = bind_some (quoted (codes "code = \"") name.0.rest) (found name.0) x name.2 in
     let y : Front ProgramText = record { value = record { name = name.0.value; code = code.0.value }; rest = code.0.rest } in
-    after_is (codes "[[program]]\n") bytes lines.0 lines.1
-    ∙ ap (λ l. codes "[[program]]\n" ++ l) (quoted_is (codes "name = \"") lines.0 name.0 name.1)
-    ∙ ap (λ l. codes "[[program]]\n" ++ (codes "name = \"" ++ (name.0.value ++ (codes "\"\n" ++ l)))) (quoted_is (codes "code = \"") name.0.rest code.0 code.1)
-    ∙ sym (program_line y.value y.rest)
-    ∙ ap (λ (z : Front ProgramText). program_bytes z.value ++ z.rest) (some_is y x code.2)
+    program_from bytes lines.0 name.0 code.0 x lines.1 name.1 code.1 (some_is y x code.2)
 
 node_by : (bytes line : List ℕ) → after (codes "[[node]]\n") bytes ≡ Some line → node_front bytes ≡ quoted (codes "program = \"") line
 unfolding node_front

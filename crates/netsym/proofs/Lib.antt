@@ -22,3 +22,6 @@ pub mod FormLeft
 pub mod FormPrograms
 pub mod FormNetworks
 pub mod FormFiles
+pub mod Words
+pub mod Ends
+pub mod Exactly

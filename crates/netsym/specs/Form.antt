@@ -20,9 +20,11 @@ pub record FileText : Type 0 where
   pub programs : List ProgramText
   pub nodes : List (List ℕ)
 
+-- the lines of a program
 abbrev pub program_bytes : ProgramText → List ℕ
 program_bytes p = codes "[[program]]\nname = \"" ++ (p.name ++ (codes "\"\ncode = \"" ++ (p.code ++ codes "\"\n")))
 
+-- the lines of a node
 abbrev pub node_bytes : List ℕ → List ℕ
 node_bytes name = codes "[[node]]\nprogram = \"" ++ (name ++ codes "\"\n")
 
@@ -45,6 +47,7 @@ abbrev pub GoesOn : ℕ → Instr → Type 0
 GoesOn i (Brz a to) = i < to
 GoesOn i other = Unit {0}
 
+-- the same of each instruction, from an index on
 abbrev pub AllGoOn : ℕ → List Instr → Type 0
 AllGoOn i [] = Unit {0}
 AllGoOn i (x ∷ xs) = GoesOn i x × AllGoOn (i + 1) xs
@@ -71,6 +74,7 @@ EachOf R [] (y ∷ ys) = ⊥
 EachOf R (x ∷ xs) [] = ⊥
 EachOf R (x ∷ xs) (y ∷ ys) = R x y × EachOf R xs ys
 
+-- the programs' names
 abbrev pub names_of : List ProgramText → List (List ℕ)
 names_of ts = map (λ (t : ProgramText). t.name) ts
 
@@ -89,9 +93,11 @@ decides (Brz a to) = true
 decides (Assert a) = true
 decides other = false
 
+-- how many instructions of a program decide
 abbrev pub decisions_of : Code → ℕ
 decisions_of code = count_by decides code.instrs
 
+-- the same of the program at a place
 abbrev pub decisions_at : List Code → ℕ → ℕ
 decisions_at programs p = decisions_of (slice_index_or programs p no_code)
 

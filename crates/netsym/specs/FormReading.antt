@@ -2,6 +2,7 @@
 use Rattle.std.specs.Prelude.{ℕ, zero, suc, not, ◌||◌, ◌==◌, if◌then◌else◌, List, [], ◌∷◌, ◌++◌, length, take, drop, codes, bytes_eq, position, Option, Some, None}
 use Rattle.netsym.specs.Form.{ProgramText, FileText}
 
+-- the second step, on what the first gave
 infixl 10 ◌>>=◌
 abbrev pub ◌>>=◌ : {A B : Type 0} → Option A → (A → Option B) → Option B
 None >>= f = None
@@ -24,6 +25,7 @@ quoted key bytes = do
   rest ← after (codes "\"\n") (drop end text)
   Some (record { value = take end text; rest = rest })
 
+-- the lines of a program
 unfoldable pub program_front : List ℕ → Option (Front ProgramText)
 program_front bytes = do
   lines ← after (codes "[[program]]\n") bytes
@@ -31,6 +33,7 @@ program_front bytes = do
   code ← quoted (codes "code = \"") name.rest
   Some (record { value = record { name = name.value; code = code.value }; rest = code.rest })
 
+-- the lines of a node
 unfoldable pub node_front : List ℕ → Option (Front (List ℕ))
 node_front bytes = do
   line ← after (codes "[[node]]\n") bytes
@@ -62,6 +65,7 @@ whole_text ticks programs nodes =
     if (length programs.value == 0) || (length nodes.value == 0) || not (length nodes.rest == 0) then None
     else Some (record { ticks = ticks; programs = programs.value; nodes = nodes.value })
 
+-- what follows the first two lines
 abbrev pub groups_text : Front ℕ → Option FileText
 groups_text ticks =
     let programs = groups program_front 64 [] ticks.rest in

@@ -1,19 +1,21 @@
 -- What the parts of a file that the program reads are in the definitions.
-use Rattle.std.specs.Prelude.{List, map, Result, Ok, Err}
+use Rattle.std.specs.Prelude.{ℕ, List, map, Result, Ok, Err}
 use denote.Ref.{Bor}
-use Rattle.std.specs.Prelude.{ℕ}
 use Rattle.netsym.specs.Form.{ProgramText, FileText}
 use Rattle.netsym.specs.declared.form.text.ProgramLines.{ProgramLines}
 use Rattle.netsym.specs.declared.form.text.FileLines.{FileLines}
 use Rattle.netsym.specs.declared.form.FormFault.{FormFault}
 use Rattle.netsym.specs.declared.form.FormFault.TheVariants as faults
 
+-- the bytes that a slice borrows
 abbrev pub text_bytes : Bor (List ℕ) → List ℕ
 text_bytes t = t.now
 
+-- a program's texts
 abbrev pub program_text : ProgramLines → ProgramText
 program_text p = record { name = p.name.now; code = p.code.now }
 
+-- the texts of a file
 abbrev pub file_text : FileLines → FileText
 file_text f = record { ticks = f.ticks; programs = map program_text f.programs.items; nodes = map text_bytes f.nodes.items }
 

@@ -41,10 +41,7 @@ pub fn read_form(alloc: Global, bytes: &[u8]) -> Result<Net, FormFault>
     ensures found { IfOk result (λ net. IsFile bytes.now net) }
     ensures none { IsErrOf result FormFault.NotForm → (net : Network) → IsFile bytes.now net → ⊥ }
 {
-    let text = match read_text(alloc, bytes) {
-        Ok(text) => text,
-        Err(fault) => return Err(fault),
-    };
+    let text = read_text(alloc, bytes)?;
     net_of(alloc, &text)
 }
 

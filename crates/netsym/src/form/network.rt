@@ -28,6 +28,7 @@ fn place_of(programs: &[ProgramLines], name: &[u8]) -> Option<usize>
     None
 }
 
+/// Whether no two programs have one name.
 fn are_different(programs: &[ProgramLines]) -> bool
     ensures { IsTrue result ↔ AreDifferent (names_of (map program_text programs.now)) }
 {
@@ -46,10 +47,7 @@ fn programs_of(alloc: Global, lines: &[ProgramLines]) -> Result<Vec<Program>, Fo
 {
     let mut programs = Vec::new(alloc);
     for text in lines {
-        let program = match program_of(alloc, text) {
-            Ok(program) => program,
-            Err(fault) => return Err(fault),
-        };
+        let program = program_of(alloc, text)?;
         let Ok(()) = programs.push(program) else {
             return Err(FormFault::Memory(AllocError));
         };
@@ -77,6 +75,7 @@ fn places_of(
     Ok(places)
 }
 
+/// Whether an instruction decides.
 fn is_decision(instr: &Instr) -> bool
     ensures { result ≡ decides instr.now }
 {
@@ -118,14 +117,8 @@ pub fn net_of(alloc: Global, text: &FileLines) -> Result<Net, FormFault>
     if !are_different(&text.programs) {
         return Err(FormFault::NotForm);
     }
-    let programs = match programs_of(alloc, &text.programs) {
-        Ok(programs) => programs,
-        Err(fault) => return Err(fault),
-    };
-    let nodes = match places_of(alloc, &text.programs, &text.nodes) {
-        Ok(nodes) => nodes,
-        Err(fault) => return Err(fault),
-    };
+    let programs = programs_of(alloc, &text.programs)?;
+    let nodes = places_of(alloc, &text.programs, &text.nodes)?;
     if !decides_little(&programs, &nodes) {
         return Err(FormFault::NotForm);
     }

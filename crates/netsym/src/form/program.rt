@@ -20,12 +20,14 @@ const NAME_BYTES: usize = 32;
 /// The most instructions of a program of a file.
 const INSTRUCTIONS: usize = 512;
 
+/// Whether a byte is a letter, a digit, `_` or `-`.
 fn is_name_byte(byte: u8) -> bool
     ensures { IsTrue result ↔ IsNameByte byte }
 {
     byte.is_ascii_alphanumeric() || byte == b'_' || byte == b'-'
 }
 
+/// Whether each byte may stand in a name.
 fn has_name_bytes(name: &[u8]) -> bool
     ensures { IsTrue result ↔ AllByRecursion IsNameByte name.now }
 {
@@ -37,6 +39,7 @@ fn has_name_bytes(name: &[u8]) -> bool
     true
 }
 
+/// Whether a text is 1 to 32 bytes that may stand in a name.
 fn is_name(name: &[u8]) -> bool
     ensures { IsTrue result ↔ IsName name.now }
 {
@@ -75,6 +78,7 @@ fn goes_forward(index: usize, instr: Instr) -> bool
     }
 }
 
+/// Whether no branch goes back.
 fn all_go_forward(instrs: &[Instr]) -> bool
     ensures { IsTrue result ↔ AllGoOn 0 instrs.now }
 {
@@ -93,6 +97,7 @@ fn has_boot_alone(handlers: &[Option<u16>; 10]) -> bool
     handlers.split_at(1).1 == [None; 9].as_slice()
 }
 
+/// Whether a program is for a file: it only boots, in at most 512 instructions, without going back.
 fn is_boot_program(program: &Program) -> bool
     ensures { IsTrue result ↔ IsBootProgram program.now }
 {
@@ -108,14 +113,8 @@ pub fn program_of(alloc: Global, lines: &ProgramLines) -> Result<Program, FormFa
     if !is_name(lines.name) {
         return Err(FormFault::NotForm);
     }
-    let bytes = match bytes_of(alloc, lines.code) {
-        Ok(bytes) => bytes,
-        Err(fault) => return Err(fault),
-    };
-    let program = match code_of(alloc, &bytes) {
-        Ok(program) => program,
-        Err(fault) => return Err(fault),
-    };
+    let bytes = bytes_of(alloc, lines.code)?;
+    let program = code_of(alloc, &bytes)?;
     if !is_boot_program(&program) {
         return Err(FormFault::NotForm);
     }

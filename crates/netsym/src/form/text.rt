@@ -129,12 +129,8 @@ pub fn read_text<'a>(alloc: Global, bytes: &'a [u8]) -> Result<FileLines<'a>, Fo
     let Some((ticks, rest)) = ticks_at(bytes) else {
         return Err(FormFault::NotForm);
     };
-    let Ok((programs, rest)) = programs_at(alloc, rest) else {
-        return Err(FormFault::Memory(AllocError));
-    };
-    let Ok((nodes, rest)) = nodes_at(alloc, rest) else {
-        return Err(FormFault::Memory(AllocError));
-    };
+    let (programs, rest) = programs_at(alloc, rest).map_err(FormFault::Memory)?;
+    let (nodes, rest) = nodes_at(alloc, rest).map_err(FormFault::Memory)?;
     if programs.is_empty() || nodes.is_empty() || !rest.is_empty() {
         return Err(FormFault::NotForm);
     }
