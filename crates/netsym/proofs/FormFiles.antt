@@ -1,14 +1,14 @@
 -- A file of the form is read, and it is the file of one network.
-use Rattle.std.proofs.Common.{◌≡◌, ◌≤◌, ℕ, zero, suc, Bool, true, false, eqb, List, [], ◌∷◌, map, Option, Some, None, Ok, refl, sym, ap, subst, ◌∙◌, arith}
+use Rattle.std.proofs.Common.{◌≡◌, ℕ, zero, suc, true, false, eqb, List, [], ◌∷◌, Some, None, Ok, sym, ap, subst, ◌∙◌, arith}
 use Rattle.std.specs.Prelude.{IfOk, IsErrOf, Result, Err}
 use Rattle.std.specs.List.{AllByRecursion}
 use Rattle.std.proofs.lemmas.Bool.{ne_eqb}
 use Rattle.std.proofs.lemmas.List.Elements.{recursion_from_All}
-use Rattle.hex.specs.Hex.{decode_of, is_hex_digit}
+use Rattle.hex.specs.Hex.{is_hex_digit}
 use Rattle.hex.proofs.HexLemmas.{decode_of-ok}
 use Rattle.kn_code.specs.Code.{Code}
 use Rattle.kn_model.specs.Nets.{Network}
-use Rattle.netsym.specs.Form.{ProgramText, FileText, IsNameByte, IsProgramOf, IsPlaceOf, EachOf, names_of, file_bytes, HasCounts, Describes, IsFile, OneNetwork}
+use Rattle.netsym.specs.Form.{ProgramText, FileText, IsNameByte, IsProgramOf, IsPlaceOf, names_of, HasCounts, Describes, IsFile, OneNetwork}
 use Rattle.netsym.specs.FormReading.{text_of}
 use Rattle.netsym.specs.FormViews.{Refuses, Finds}
 use Rattle.netsym.specs.declared.form.FormFault.{FormFault}

@@ -1,9 +1,9 @@
 -- What the network of a file of the form is like.
-use Rattle.std.proofs.Common.{◌≡◌, ◌≤◌, ℕ, List, [], ◌∷◌, length, sym, subst}
+use Rattle.std.proofs.Common.{◌≤◌, ℕ, List, [], ◌∷◌, length, sym, subst}
 use Rattle.std.specs.List.{AllByRecursion}
 use Rattle.kn_code.specs.declared.program.Instr.{Instr}
 use Rattle.kn_code.specs.declared.program.Instr.TheVariants.{Timer}
-use Rattle.kn_code.specs.Code.{Code, IsInstr, IsValid, Stands, AllWithLeft}
+use Rattle.kn_code.specs.Code.{Code, IsInstr, Stands, AllWithLeft}
 use Rattle.kn_model.specs.Nets.{Network}
 use Rattle.kn_model.specs.Laws.{IsNet, SetsLater}
 use Rattle.netsym.specs.Plans.{network_with}

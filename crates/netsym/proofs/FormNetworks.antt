@@ -1,5 +1,5 @@
 -- The network that the texts of a file describe, and that they describe one network.
-use Rattle.std.proofs.Common.{◌≡◌, ◌≢◌, ◌≤◌, ◌<◌, ◌+◌, ℕ, zero, suc, Bool, true, false, eqb, List, [], ◌∷◌, ◌++◌, length, map, take, drop, get_or, Option, Some, None, refl, sym, ap, subst, ◌∙◌, arith}
+use Rattle.std.proofs.Common.{◌≡◌, ◌≢◌, ◌≤◌, ◌<◌, ◌+◌, ℕ, zero, suc, Bool, true, false, eqb, List, [], ◌∷◌, ◌++◌, length, map, take, get_or, Option, Some, None, refl, sym, ap, subst, ◌∙◌, arith}
 use denote.Ref.{Bor}
 use Rattle.std.specs.Prelude.{◌↔◌, IsTrue, MatchOption, All, is_some, option_map, slice_get, sum_by}
 use Rattle.std.specs.List.{AllByRecursion}
@@ -14,7 +14,7 @@ use Rattle.std.proofs.lemmas.List.Elements.{All-from_recursion}
 use Rattle.kn_code.specs.Code.{Code, no_code}
 use Rattle.kn_model.specs.Nets.{Network}
 use Rattle.netsym.specs.Plans.{network_with}
-use Rattle.netsym.specs.Form.{ProgramText, FileText, IsProgramOf, EachOf, names_of, AreDifferent, IsPlaceOf, decisions_of, decisions_at, HasCounts, Describes}
+use Rattle.netsym.specs.Form.{ProgramText, FileText, IsProgramOf, EachOf, names_of, AreDifferent, IsPlaceOf, decisions_of, decisions_at, Describes}
 use Rattle.netsym.specs.FormViews.{program_text, text_bytes, file_text, Refuses}
 use Rattle.netsym.specs.declared.form.text.ProgramLines.{ProgramLines}
 use Rattle.netsym.specs.declared.form.text.FileLines.{FileLines}

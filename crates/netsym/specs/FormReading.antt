@@ -1,5 +1,5 @@
 -- Reading the texts of a file of the form, from left to right.
-use Rattle.std.specs.Prelude.{ℕ, zero, suc, Bool, not, ◌||◌, ◌==◌, if◌then◌else◌, List, [], ◌∷◌, ◌++◌, length, take, drop, codes, bytes_eq, position, Option, Some, None}
+use Rattle.std.specs.Prelude.{ℕ, zero, suc, not, ◌||◌, ◌==◌, if◌then◌else◌, List, [], ◌∷◌, ◌++◌, length, take, drop, codes, bytes_eq, position, Option, Some, None}
 use Rattle.netsym.specs.Form.{ProgramText, FileText}
 
 -- the second step, on what the first gave

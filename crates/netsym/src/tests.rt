@@ -156,7 +156,10 @@ fn no_ticks_and_upper_case(rt: HostRuntime) -> Result<(), Fail> {
 fn other_words_and_no_file(rt: HostRuntime) -> Result<(), Fail> {
     let usage = call_on(rt.alloc(), &[], HALVES.as_bytes(), &[0], &[])?;
     assert_eq!(rt; usage.status, Status::Usage);
-    assert_eq!(rt; usage.text.as_slice(), b"netsym: not a command line\n".as_slice());
+    assert_eq!(rt;
+        usage.text.as_slice(),
+        b"netsym: not a command line\n".as_slice()
+    );
     let empty = call_on(rt.alloc(), &COMMAND, &[], &[], &[])?;
     assert_eq!(rt; empty.status, Status::Refused);
     assert_eq!(rt; empty.text.as_slice(), NOT_FORM);

@@ -1,4 +1,4 @@
-use Rattle.std.proofs.Common.{◌≡◌, Err}
+use Rattle.std.proofs.Common.{Err}
 use Rattle.kn_model.specs.Nets.{Network}
 use Rattle.netsym.specs.Form.{IsFile, Describes}
 use Rattle.netsym.specs.FormViews.{file_text}

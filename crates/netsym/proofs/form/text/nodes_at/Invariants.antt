@@ -1,4 +1,4 @@
-use Rattle.std.proofs.Common.{◌≡◌, ◌≤◌, ◌-◌, ℕ, [], map, length, vec_len}
+use Rattle.std.proofs.Common.{◌≡◌, ◌≤◌, ◌-◌, [], map, length, vec_len}
 use Rattle.netsym.specs.FormReading.{node_front, groups}
 use Rattle.netsym.specs.FormViews.{text_bytes}
 use Rattle.netsym.proofs.form.text.nodes_at.Given as goal

@@ -1,4 +1,4 @@
-use Rattle.std.proofs.Common.{◌≡◌, ◌≤◌, length, sym, ◌∙◌, arith}
+use Rattle.std.proofs.Common.{◌≡◌, length, sym, ◌∙◌, arith}
 use Rattle.netsym.specs.FormReading.{program_front}
 use Rattle.netsym.specs.FormViews.{program_text}
 use Rattle.netsym.proofs.FormTexts.{groups_step, groups_full, groups_done}

@@ -1,4 +1,4 @@
-use Rattle.std.proofs.Common.{◌≡◌, ◌≤◌, ◌-◌, ℕ, [], map, length, vec_len}
+use Rattle.std.proofs.Common.{◌≡◌, ◌≤◌, ◌-◌, [], map, length, vec_len}
 use Rattle.netsym.specs.FormReading.{program_front, groups}
 use Rattle.netsym.specs.FormViews.{program_text}
 use Rattle.netsym.proofs.form.text.programs_at.Given as goal
