@@ -22,6 +22,3 @@ pub mod FormLeft
 pub mod FormPrograms
 pub mod FormNetworks
 pub mod FormFiles
-pub mod Words
-pub mod Ends
-pub mod Exactly

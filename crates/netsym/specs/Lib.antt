@@ -10,11 +10,6 @@ pub mod Plain
 pub mod Listing
 pub mod Texts
 pub mod Form
-pub mod FormReading
-pub mod FormViews
-pub mod Statuses
-pub mod Runs
-pub mod Exact
 pub mod Statuses
 pub mod Runs
 pub mod Exact
