@@ -28,12 +28,14 @@ not-true : (b : Bool) → not b ≡ true → b ≡ false
 not-true true holds = sym holds
 not-true false holds = refl
 
+-- a list in which the test finds no element
 none : {K : Type 0} (p : K → Bool) (xs : List K) → list_all (λ y. not (p y)) xs ≡ true → AllByRecursion (λ y. p y ≡ false) xs
 none p [] holds = tt
 none p (x ∷ xs) holds =
     let parts : (not (p x) ≡ true) × (list_all (λ y. not (p y)) xs ≡ true) = both (not (p x)) (list_all (λ y. not (p y)) xs) holds in
     (not-true (p x) parts.0, none p xs parts.1)
 
+-- what the test says
 pub IsDistinct-differ : {K : Type 0} (e : K → K → Bool) (xs : List K) → differ e xs ≡ true → IsDistinct e xs
 unfolding IsDistinct
 IsDistinct-differ e [] holds = tt
@@ -50,6 +52,7 @@ bytes_eq-same (x ∷ xs) = both_true (nat_eq-same x) (bytes_eq-same xs)
 
 -- keys that differ: each element is the first one with its key
 module _ {X K : Type 0} (same : K → K → Bool) (reflexive : (k : K) → same k k ≡ true) (key : X → K) where
+  -- elements behind one with another key
   behind : (x : X) (xs ys : List X) → AllByRecursion (λ k. same (key x) k ≡ false) (map key ys) →
       AllByRecursion (λ y. find (λ (z : X). same (key z) (key y)) xs ≡ Some y) ys →
       AllByRecursion (λ y. find (λ (z : X). same (key z) (key y)) (x ∷ xs) ≡ Some y) ys

@@ -12,6 +12,7 @@ pub record Entry : Type 0 where
   pub code : ℕ
   pub shape : Shape
 
+-- a row's entry
 abbrev pub entry_of : Row → Entry
 entry_of r = record { name = r.name.now; code = r.code; shape = r.shape }
 
