@@ -1,12 +1,11 @@
 -- How a call of the program ends.
-use Rattle.std.proofs.Common.{◌≡◌, ◌⊎◌, inl, inr, ℕ, zero, suc, ◌+◌, ◌≤◌, Bool, true, false, cond, List, [], ◌∷◌, ◌++◌, length, Option, Some, None, Result, Ok, Err, refl, sym, ap, subst, ◌∙◌, arith}
+use Rattle.std.proofs.Common.{◌≡◌, inl, inr, ℕ, zero, suc, ◌+◌, ◌≤◌, Bool, true, false, cond, List, Option, Some, None, Result, Ok, Err, refl, sym, subst, ◌∙◌, arith}
 use Rattle.std.specs.Prelude.{OnOk, OnErr, is_ok, IsTrue, ◌↔◌, nat_eq}
-use Rattle.std.specs.Io.KnownBytes.{Appends, Consumes, Keeps, IsAtEnd}
-use Rattle.std.proofs.lemmas.Bool.{eqb-true, eq-eqb}
-use Rattle.kn_io.specs.Reading.{TakesAtMost, TakesExactly}
+use Rattle.std.specs.Io.KnownBytes.{Appends, Keeps}
+use Rattle.std.proofs.lemmas.Bool.{eqb-true}
+use Rattle.kn_io.specs.Reading.{TakesAtMost}
 use Rattle.kn_io.specs.Writing.{TakesFront}
 use Rattle.kn_model.specs.Nets.{Network}
-use Rattle.kn_model.specs.Reports.{Report, Gives}
 use Rattle.netsym.specs.declared.status.Status.{Status}
 use Rattle.netsym.specs.declared.status.Status.TheVariants as statuses
 use Rattle.netsym.specs.Texts.{reached_in}

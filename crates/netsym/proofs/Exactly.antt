@@ -1,13 +1,12 @@
 -- From what a call does follows exactly when each status comes.
-use Rattle.std.proofs.Common.{◌≡◌, ◌⊎◌, inl, inr, ℕ, ◌+◌, ◌≤◌, ◌<◌, List, [], ◌∷◌, ◌++◌, length, Option, Some, None, refl, sym, ap, subst, ◌∙◌, arith}
-use Rattle.std.specs.Io.KnownBytes.{Appends, Consumes, Keeps, IsAtEnd}
+use Rattle.std.proofs.Common.{◌≡◌, ◌⊎◌, inl, inr, ℕ, ◌+◌, ◌≤◌, List, ◌++◌, length, Option, Some, None, refl, sym, ap, subst, ◌∙◌, arith}
+use Rattle.std.specs.Io.KnownBytes.{Consumes, IsAtEnd}
 use Rattle.std.proofs.lemmas.List.{append-nil, length-append}
-use Rattle.kn_io.specs.Reading.{TakesExactly}
 use Rattle.kn_model.specs.Nets.{Network}
 use Rattle.netsym.specs.declared.status.Status.{Status}
 use Rattle.netsym.specs.declared.status.Status.TheVariants as statuses
 use Rattle.netsym.specs.Form.{IsFile}
-use Rattle.netsym.specs.Runs.{IsCommand, IsRight, IsWritten, Reads, Runs, limit}
+use Rattle.netsym.specs.Runs.{IsCommand, IsRight, Reads, Runs, limit}
 use Rattle.netsym.specs.Exact.{EndsAs, IsUsage, IsHindered, IsPrinted, IsDescribed, IsExact}
 
 -- what was read to the end of a source that holds these bytes is these bytes

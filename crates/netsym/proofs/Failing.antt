@@ -189,8 +189,7 @@ module _ (net : Network) (ms : List (Scenario Term)) (h : IsListing net ms) (dec
   owns_behind d columns k front (s ∷ ss) j e at =
       let y = get_map state k.scenario.nodes (length front) s (ap (λ (l : List (State Term)). slice_get l (length front)) e ∙ get_behind front s ss) in
       let f : Found net ms h j = record { d = d; n = length front; columns = columns; kept = k; node = y.0; there = y.1; is = at } in
-      let longer : j + 1 ≡ first_of M 0 d + length (front ++ (s ∷ [])) = omega (arith, at, length-append front (s ∷ [])) in
-      (
+      let longer : j + 1 ≡ first_of M 0 d + length (front ++ (s ∷ [])) = omega (arith, at, length-append front (s ∷ [])) in (
         (
           λ c o.
               let g = node_found net ms h j o.0 o.1 in
@@ -251,7 +250,7 @@ module _ (net : Network) (ms : List (Scenario Term)) (h : IsListing net ms) (dec
         let own_is : asked.own ≡ this.own = sym asked.own_is.2 ∙ (ap node_own (sym mine.1) ∙ ap node_own (sym (same_node net ms h i i f mine.0 refl))) in
         let columns : asked.columns ≡ f.columns = k.columns_are ∙ (ap (λ (d : ℕ). singles M (first_of M 0 d)) (sym same.0) ∙ sym f.kept.columns_are) in
         let cut : take asked.line.node asked.columns ++ drop (asked.line.node + 1) asked.columns ≡ map alone (numbers (length before) first ++ numbers (length after) ((first + length before) + 1)) =
-            ap (λ (l : List (List ℕ)). take asked.line.node l ++ drop (asked.line.node + 1) l) columns ∙ (ap (λ (n : ℕ). take n f.columns ++ drop (n + 1) f.columns) node ∙ columns_are) in
+        ap (λ (l : List (List ℕ)). take asked.line.node l ++ drop (asked.line.node + 1) l) columns ∙ (ap (λ (n : ℕ). take n f.columns ++ drop (n + 1) f.columns) node ∙ columns_are) in
         let rest = owns_only (numbers (length before) first ++ numbers (length after) ((first + length before) + 1)) others asked.others other_owns (subst (λ (l : List (List ℕ)). AllOwnsOf net R l asked.others) cut asked.others_are) in
         (sym same.0, asked.query ∙ (ap (λ (c : Condition). that_with c asked.others) own_is ∙ ap (that_with this.own) rest))
 
@@ -471,8 +470,7 @@ module _ (net : Network) (ms : List (Scenario Term)) (h : IsListing net ms) (dec
       let others = in_order_from (d + 1) (i + M) xs long.1 in
       let inside = between i 0 reach x in
       let top : i + (0 + length x) ≡ i + M = omega (arith, long.0) in
-      let bottom : i + 0 ≡ i = omega arith in
-      (
+      let bottom : i + 0 ≡ i = omega arith in (
         rises_append here rest (i + M) (rises_in i 0 reach x) others.0 (subst (λ (b : ℕ). AllByRecursion (λ (w : FailureLine). w.state < b) here) top (all_high (i + 0) (i + (0 + length x)) here inside)) others.1,
         all_join (λ (w : FailureLine). i ≤ w.state) here rest (subst (λ (b : ℕ). AllByRecursion (λ (w : FailureLine). b ≤ w.state) here) bottom (all_low (i + 0) (i + (0 + length x)) here inside)) (all_lower i (i + M) (omega arith) rest others.1),
       )
@@ -525,10 +523,18 @@ module _ (net : Network) (ms : List (Scenario Term)) (h : IsListing net ms) (dec
     others = λ s c none. elim (h.others s c) [ inl here ↦ absurd (none (name_kept s here)) | inr lost ↦ lost ];
     placed = λ i less.
         let f = found net ms h i less in
-        let here : f.n < M = (let in_nodes = get_less f.kept.scenario.nodes f.n f.node f.there in omega (arith, in_nodes, f.kept.whole)) in
-        (f.d, (f.columns, f.kept.there, ((first_of M 0 f.d + f.n) ∷ [],
-          contains_at f.columns f.n ((first_of M 0 f.d + f.n) ∷ []) (ap (λ (l : List (List ℕ)). slice_get l f.n) f.kept.columns_are ∙ at_singles M (first_of M 0 f.d) f.n here),
-          subst (λ (j : ℕ). Contains ((first_of M 0 f.d + f.n) ∷ []) j) (sym f.is) (only (first_of M 0 f.d + f.n)))));
+        let here : f.n < M = (let in_nodes = get_less f.kept.scenario.nodes f.n f.node f.there in omega (arith, in_nodes, f.kept.whole)) in (
+          f.d,
+          (
+            f.columns,
+            f.kept.there,
+            (
+              (first_of M 0 f.d + f.n) ∷ [],
+              contains_at f.columns f.n ((first_of M 0 f.d + f.n) ∷ []) (ap (λ (l : List (List ℕ)). slice_get l f.n) f.kept.columns_are ∙ at_singles M (first_of M 0 f.d) f.n here),
+              subst (λ (j : ℕ). Contains ((first_of M 0 f.d + f.n) ∷ []) j) (sym f.is) (only (first_of M 0 f.d + f.n)),
+            ),
+          ),
+        );
     standings = λ i line y e node.
         let f = node_found net ms h i y node in
         let nodes = all_at (λ (s : Scenario Term). AllByRecursion (λ (z : Node Term). IsPlain z.state.own) s.nodes) ms f.0.d f.0.kept.scenario h.plain f.0.kept.member in

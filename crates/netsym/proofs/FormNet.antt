@@ -1,13 +1,13 @@
 -- What the network of a file of the form is like.
-use Rattle.std.proofs.Common.{◌≡◌, ◌≤◌, ℕ, List, [], ◌∷◌, length, sym, subst}
+use Rattle.std.proofs.Common.{◌≤◌, ℕ, List, [], ◌∷◌, length, sym, subst}
 use Rattle.std.specs.List.{AllByRecursion}
 use Rattle.kn_code.specs.declared.program.Instr.{Instr}
 use Rattle.kn_code.specs.declared.program.Instr.TheVariants.{Timer}
-use Rattle.kn_code.specs.Code.{Code, IsInstr, IsValid, Stands, AllWithLeft}
+use Rattle.kn_code.specs.Code.{Code, IsInstr, Stands, AllWithLeft}
 use Rattle.kn_model.specs.Nets.{Network}
 use Rattle.kn_model.specs.Laws.{IsNet, SetsLater}
 use Rattle.netsym.specs.Plans.{network_with}
-use Rattle.netsym.specs.Form.{ProgramText, IsProgramOf, ArePrograms, IsFile}
+use Rattle.netsym.specs.Form.{ProgramText, IsProgramOf, EachOf, IsFile}
 
 sets_later : (count : ℕ) (i : Instr) → IsInstr count i → SetsLater i
 sets_later count (Timer k d) h = absurd h
@@ -18,7 +18,7 @@ all_set_later count [] h = tt
 all_set_later count (i ∷ is) h = (sets_later count i h.0.0, all_set_later count is h.1)
 
 -- no timer is set in the programs of a file
-programs_set_later : (texts : List ProgramText) (programs : List Code) → ArePrograms texts programs
+programs_set_later : (texts : List ProgramText) (programs : List Code) → EachOf IsProgramOf texts programs
     → AllByRecursion (λ (c : Code). AllByRecursion SetsLater c.instrs) programs
 programs_set_later [] [] h = tt
 programs_set_later [] (c ∷ cs) h = absurd h
@@ -32,8 +32,9 @@ net_with ticks programs places h = record { delays = tt; timers = h }
 -- it has what the laws of the model need
 pub file_is_net : (bytes : List ℕ) (net : Network) → IsFile bytes net → IsNet net
 file_is_net bytes net file =
-    subst IsNet (sym file.network) (net_with file.text.ticks file.programs file.places (programs_set_later file.text.programs file.programs file.are_programs))
+    let d = file.describes in
+    subst IsNet (sym d.network) (net_with file.text.ticks d.programs d.places (programs_set_later file.text.programs d.programs d.are_programs))
 
 -- it runs at most one tick
 pub file_short : (bytes : List ℕ) (net : Network) → IsFile bytes net → net.limits.ticks ≤ 1
-file_short bytes net file = rw file.network file.ticks
+file_short bytes net file = rw file.describes.network file.counts.ticks

@@ -17,3 +17,8 @@ pub mod FormNet
 pub mod Words
 pub mod Ends
 pub mod Exactly
+pub mod FormTexts
+pub mod FormLeft
+pub mod FormPrograms
+pub mod FormNetworks
+pub mod FormFiles

@@ -1,19 +1,19 @@
 -- What is known of the scenarios that are kept.
-use Rattle.std.proofs.Common.{◌≡◌, ◌⊎◌, inl, inr, ℕ, zero, suc, ◌+◌, ◌<◌, ◌≤◌, Bool, true, false, cond, not, List, [], ◌∷◌, ◌++◌, length, map, take, drop, get_or, Option, Some, None, refl, sym, ap, subst, ◌∙◌, arith, append_assoc}
-use Rattle.std.specs.Prelude.{Contains, slice_get, slice_index_or, flat_map, filter, ◌&&◌}
+use Rattle.std.proofs.Common.{◌≡◌, ◌⊎◌, inl, inr, ℕ, zero, suc, ◌+◌, ◌<◌, ◌≤◌, Bool, true, false, cond, not, List, [], ◌∷◌, ◌++◌, length, map, take, drop, get_or, Some, refl, sym, ap, subst, ◌∙◌, arith, append_assoc}
+use Rattle.std.specs.Prelude.{Contains, slice_get, filter, ◌&&◌}
 use Rattle.std.specs.List.{AllByRecursion}
 use Rattle.std.specs.Cmp.Lexicographic.{slice_cmp}
-use Rattle.std.proofs.lemmas.List.{map-append, length-map, take_at, drop_at, length-append}
+use Rattle.std.proofs.lemmas.List.{map-append, take_at, drop_at, length-append}
 use Rattle.std.proofs.lemmas.List.Concat.{flat_map-cons}
 use Rattle.std.proofs.lemmas.List.Elements.{All-contains_itself, recursion_from_All}
-use Rattle.kn_model.specs.Terms.{Term, Valuation, terms}
+use Rattle.kn_model.specs.Terms.{Term}
 use Rattle.kn_model.specs.Nodes.{State, Node}
 use Rattle.kn_model.specs.Nets.{Network}
-use Rattle.kn_model.specs.Scenarios.{Scenario, name_of, cob}
+use Rattle.kn_model.specs.Scenarios.{Scenario, name_of}
 use Rattle.kn_model.specs.Conditions.{Condition, Query, that, that_with, IsLeast, IsImpossible}
 use Rattle.kn_model.specs.Deciding.{IsPlain, clashes, forced, joined, none_clashes}
 use Rattle.kn_model.specs.Cores.{HasImpossible}
-use Rattle.kn_model.specs.Reports.{ends, Rises, trace_cmp, Gives}
+use Rattle.kn_model.specs.Reports.{ends, trace_cmp, Gives}
 use Rattle.kn_model.specs.Laws.{IsNet}
 use Rattle.kn_model.proofs.Clashing.{both, not_true, clash_is_impossible}
 use Rattle.kn_model.proofs.LeastInputs.{forced_is_least}
@@ -59,7 +59,7 @@ whole_query before s after =
     let taken : take n cs ≡ front = take_at front (s.own ∷ back) n refl in
     let dropped : drop (n + 1) cs ≡ back = ap (drop (n + 1)) (sym (append_assoc front (s.own ∷ []) back)) ∙ drop_at (front ++ (s.own ∷ [])) back (n + 1) (length-append front (s.own ∷ [])) in
     let others : alone (take n cs ++ drop (n + 1) cs) ≡ map alternative (before ++ after) =
-        ap alone (ap (λ l. l ++ drop (n + 1) cs) taken ∙ ap (λ l. front ++ l) dropped ∙ sym (map-append own before after)) ∙ sym (alternatives_alone (before ++ after)) in
+    ap alone (ap (λ l. l ++ drop (n + 1) cs) taken ∙ ap (λ l. front ++ l) dropped ∙ sym (map-append own before after)) ∙ sym (alternatives_alone (before ++ after)) in
     let all : all_of cs ≡ joined (before ++ (s ∷ after)) = ap all_of (sym (map-append own before (s ∷ after))) ∙ sym (joined_all (before ++ (s ∷ after))) in
     ap (that_with s.own) (sym others)
     ∙ ap (λ (c : Condition). that_with c (alone (take n cs ++ drop (n + 1) cs))) (sym this)

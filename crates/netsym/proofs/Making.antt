@@ -1,13 +1,12 @@
 -- A report that is made scenario by scenario.
-use Rattle.std.proofs.Common.{◌≡◌, ℕ, zero, suc, ◌+◌, ◌-◌, ◌<◌, ◌≤◌, Bool, true, false, List, [], ◌∷◌, ◌++◌, length, map, take, drop, get_or, refl, sym, ap, subst, ◌∙◌, arith, append_assoc}
+use Rattle.std.proofs.Common.{◌≡◌, ℕ, zero, suc, ◌+◌, ◌-◌, ◌<◌, Bool, true, false, List, [], ◌∷◌, ◌++◌, length, map, take, drop, get_or, refl, sym, ap, subst, ◌∙◌, arith, append_assoc}
 use Rattle.std.specs.Prelude.{◌||◌, flat_map}
 use Rattle.std.specs.List.{AllByRecursion}
-use Rattle.std.proofs.lemmas.List.{map-append, append-nil, take_more, take-append-drop, length-append}
+use Rattle.std.proofs.lemmas.List.{map-append, take_more, take-append-drop, length-append}
 use Rattle.std.proofs.lemmas.List.Concat.{flat_map-cons}
 use Rattle.std.proofs.Math.Seq.{drop-cons}
 use Rattle.kn_model.specs.Terms.{Term}
 use Rattle.kn_model.specs.Nodes.{State}
-use Rattle.kn_model.specs.Conditions.{Condition}
 use Rattle.kn_model.specs.Deciding.{IsPlain, is_false, clashes, joined}
 use Rattle.kn_model.specs.Reports.{StateLine, FailureLine, singles}
 use Rattle.kn_model.proofs.Clashing.{clash_stays}

@@ -88,8 +88,7 @@ matches_in : (before : List StateLine) (n : ℕ) (ss : List (State Term)) (after
 matches_in before n [] after i e = tt
 matches_in before n (s ∷ ss) after i e =
     let rest = lines_from (n + 1) ss ++ after in
-    let longer : i + 1 ≡ length (before ++ (line_of n s ∷ [])) = omega (arith, e, length-append before (line_of n s ∷ [])) in
-    (
+    let longer : i + 1 ≡ length (before ++ (line_of n s ∷ [])) = omega (arith, e, length-append before (line_of n s ∷ [])) in (
       ap (λ k. slice_get (before ++ (line_of n s ∷ rest)) k) e ∙ get_behind before (line_of n s) rest,
       subst (λ lines. Matches lines (i + 1) (n + 1) ss) (append_assoc before (line_of n s ∷ []) rest) (matches_in (before ++ (line_of n s ∷ [])) (n + 1) ss after (i + 1) longer),
     )
@@ -227,7 +226,7 @@ spot_of nodes i (x ∷ xs) k long h =
           record { d = 0; n = k; states = x; state = at.0; member = refl; there = at.1; is = refl }
       | inr more ↦
           let both : length (flat_map (lines_from 0) (x ∷ xs)) ≡ length (lines_from 0 x) + length (flat_map (lines_from 0) xs) =
-              ap length (flat_map-cons (lines_from 0) x xs) ∙ length-append (lines_from 0 x) (flat_map (lines_from 0) xs) in
+          ap length (flat_map-cons (lines_from 0) x xs) ∙ length-append (lines_from 0 x) (flat_map (lines_from 0) xs) in
           let fewer : k - nodes < length (flat_map (lines_from 0) xs) = omega (arith, h, more, both, length-lines_from 0 x, long.0) in
           let r = spot_of nodes (i + nodes) xs (k - nodes) long.1 fewer in
           let same : i + k ≡ first_of nodes (i + nodes) r.d + r.n = omega (arith, more, r.is) in

@@ -1,9 +1,9 @@
 -- Where an input stands in a valuation.
-use Rattle.std.proofs.Common.{◌≡◌, ℕ, suc, ◌+◌, ◌<◌, ◌≤◌, Bool, true, false, cond, List, [], ◌∷◌, ◌++◌, length, map, take, drop, get_or, insert, refl, sym, ap, ◌∙◌, arith, append_assoc}
+use Rattle.std.proofs.Common.{◌≡◌, ℕ, suc, ◌+◌, ◌<◌, Bool, true, false, cond, List, [], ◌∷◌, ◌++◌, length, map, take, drop, get_or, insert, refl, sym, ap, ◌∙◌, arith, append_assoc}
 use Rattle.std.specs.Prelude.{◌||◌, ◌&&◌, nat_lt, nat_eq}
-use Rattle.std.proofs.lemmas.List.{map-append, take-append-drop, append-nil, take_more, take_all}
+use Rattle.std.proofs.lemmas.List.{map-append, take-append-drop, take_more}
 use Rattle.std.proofs.Math.Seq.{drop-cons, drop-length}
-use Rattle.kn_model.specs.Terms.{Given, Valuation}
+use Rattle.kn_model.specs.Terms.{Valuation}
 use Rattle.kn_model.specs.Deciding.{put_one}
 use Rattle.netsym.specs.declared.valuation.GivenWord.{GivenWord}
 use Rattle.netsym.specs.Valuations.{given_of, one_of}

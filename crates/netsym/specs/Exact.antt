@@ -1,5 +1,5 @@
 -- Exactly when each status comes.
-use Rattle.std.specs.Prelude.{◌≡◌, ◌⊎◌, ◌≤◌, ◌<◌, ℕ, List, length}
+use Rattle.std.specs.Prelude.{◌≡◌, ◌⊎◌, ◌≤◌, ℕ, List, length}
 use Rattle.kn_model.specs.Nets.{Network}
 use Rattle.netsym.specs.Form.{IsFile}
 use Rattle.netsym.specs.Runs.{IsCommand, limit}

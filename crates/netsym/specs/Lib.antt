@@ -13,3 +13,5 @@ pub mod Form
 pub mod Statuses
 pub mod Runs
 pub mod Exact
+pub mod FormReading
+pub mod FormViews

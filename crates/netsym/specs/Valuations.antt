@@ -1,5 +1,5 @@
 -- What valuations of the program are in the definitions.
-use Rattle.std.specs.Prelude.{ℕ, List, [], ◌∷◌}
+use Rattle.std.specs.Prelude.{ℕ, [], ◌∷◌}
 use Rattle.kn_model.specs.Terms.{Given, Valuation}
 use Rattle.kn_model.specs.Conditions.{Condition}
 use Rattle.kn_model.specs.Deciding.{forced_by}

@@ -13,3 +13,6 @@ mod valuation;
 
 pub use status::Status;
 pub use top::{run_alone, words_ok};
+
+#[cfg(test)]
+mod tests;

@@ -51,11 +51,9 @@ impl Model for Valuation {
 
 /// Where an input that is not listed would stand; None where it is listed.
 fn place_for(entries: &[GivenWord], node: u32, index: u32) -> Option<usize>
-    ensures {
-        MatchOption result
+    ensures { MatchOption result
         (put_one node index (map given_of entries.now) ≡ map given_of entries.now)
-        (λ p. (p ≤ length entries.now) × (put_one node index (map given_of entries.now) ≡ map given_of (insert entries.now p (one_of node index))))
-    }
+        (λ p. (p ≤ length entries.now) × (put_one node index (map given_of entries.now) ≡ map given_of (insert entries.now p (one_of node index)))) }
 {
     for (place, entry) in entries.iter().enumerate() {
         if entry.comes_after(node, index) {

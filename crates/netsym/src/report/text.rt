@@ -223,7 +223,12 @@ pub fn head_line(alloc: Global, report: &Report) -> Result<String, AllocError>
 }
 
 /// The last line, with so many reached failures, and so many open states and failures.
-fn end_line(alloc: Global, report: &Report, reached: usize, undecided: usize) -> Result<String, AllocError>
+fn end_line(
+    alloc: Global,
+    report: &Report,
+    reached: usize,
+    undecided: usize,
+) -> Result<String, AllocError>
     requires reached { reached ≡ reached_in report.now }
     requires undecided { undecided ≡ open_in report.now }
     ensures { IfOk result (λ t. string_bytes t ≡ end_text report.now) }

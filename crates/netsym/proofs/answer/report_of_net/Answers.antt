@@ -1,6 +1,4 @@
-use Rattle.std.proofs.Common.{◌≡◌, ◌∙◌, ◌≤◌, List, ap, sym, subst}
-use Rattle.kn_model.specs.Terms.{Term}
-use Rattle.kn_model.specs.Nodes.{State}
+use Rattle.std.proofs.Common.{◌≡◌, ◌∙◌, ◌≤◌, ap, sym, subst}
 use Rattle.kn_model.specs.Reports.{Report, Gives}
 use Rattle.netsym.specs.Plain.{ArePlain}
 use Rattle.netsym.specs.Shown.{kept}

@@ -1,8 +1,8 @@
-use Rattle.std.proofs.Common.{inl, inr, refl}
-use Rattle.std.specs.Prelude.{codes, string_bytes}
+use Rattle.std.proofs.Common.{inl, refl}
+use Rattle.std.specs.Prelude.{string_bytes}
 use Rattle.std.specs.List.{flat_map}
 use Rattle.netsym.specs.declared.status.Status.TheVariants as statuses
-use Rattle.netsym.specs.Runs.{words_of, Runs, usage_line, too_long_line, read_fault_line, memory_line}
+use Rattle.netsym.specs.Runs.{usage_line, too_long_line, read_fault_line, memory_line}
 use Rattle.netsym.proofs.Ends.{written_by, keeps_same, not_command, is_command, taken_whole, right_by}
 use Rattle.netsym.proofs.top.run_once.Goals as goal
 

@@ -1,6 +1,6 @@
-use Rattle.std.proofs.Common.{◌≡◌, ◌∙◌, refl, sym, ap, arith, subst, length, true, false, get_or}
+use Rattle.std.proofs.Common.{◌≡◌, ◌∙◌, refl, sym, arith, subst, length, get_or}
 use Rattle.netsym.specs.declared.valuation.GivenWord.{GivenWord}
-use Rattle.netsym.proofs.Placing.{IsPast, is_after, is_same, stands_here, goes_last}
+use Rattle.netsym.proofs.Placing.{IsPast, stands_here, goes_last}
 use Rattle.netsym.proofs.valuation.place_for.Goals as goal
 
 abbrev none : GivenWord

@@ -1,4 +1,4 @@
-use Rattle.std.proofs.Common.{◌≡◌, ◌∙◌, ◌+◌, sym, refl, get_or, true, false}
+use Rattle.std.proofs.Common.{◌∙◌, ◌+◌, sym, refl, get_or, false}
 use Rattle.netsym.specs.declared.explore.value.Value.TheVariants as values
 use Rattle.netsym.specs.declared.explore.value.Decision.{Decision}
 use Rattle.netsym.proofs.Making.{clashes_more, clashes_whole}

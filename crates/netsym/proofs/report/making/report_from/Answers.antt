@@ -1,6 +1,6 @@
-use Rattle.std.proofs.Common.{◌≡◌, ◌++◌, ◌∷◌, [], arith, sym, ap, ◌∙◌, length, List, ℕ}
+use Rattle.std.proofs.Common.{◌≡◌, ◌++◌, ◌∷◌, [], arith, ap, ◌∙◌, length, List, ℕ}
 use Rattle.kn_model.specs.Deciding.{joined}
-use Rattle.kn_model.specs.Reports.{FailureLine, singles}
+use Rattle.kn_model.specs.Reports.{singles}
 use Rattle.netsym.specs.Listing.{failures_in, reach_of}
 use Rattle.netsym.proofs.Making.{long_at, listed_more}
 use Rattle.netsym.proofs.report.making.report_from.Goals as goal
@@ -20,6 +20,6 @@ loop-dstate-preserved c =
     c.loop-dstate.invariant c.loop-dstate-test.true c.index-scenarios-dstate.is long
     c.in_ok-put_lines.ensures.lines
     (c.in_ok-push.ensures.items ∙ ap (λ (columns : List (List ℕ)). c.loop-dstate.dstates.items ++ (columns ∷ []))
-      (c.in_ok-columns_from.ensures ∙ (ap (λ (n : ℕ). singles n c.len-first.result) c.node_count-nodes.ensures.count ∙ ap (singles nodes) first)))
+    (c.in_ok-columns_from.ensures ∙ (ap (λ (n : ℕ). singles n c.len-first.result) c.node_count-nodes.ensures.count ∙ ap (singles nodes) first)))
     (c.in_ok-put_failures.ensures ∙ ap (λ (i : ℕ). c.loop-dstate.failures.items ++ failures_in i 0 (reach_of (length scenario) c.loop-dstate.dstate i (joined scenario)) scenario) first)
     c.in_ok-put_lines.ensures.plain

@@ -1,4 +1,4 @@
-use Rattle.std.proofs.Common.{◌≡◌, ◌++◌, codes, decimal, string_bytes, map, flat_map, take}
+use Rattle.std.proofs.Common.{◌≡◌, ◌++◌, codes, string_bytes, flat_map, take}
 use Rattle.netsym.specs.Texts.{column_text}
 use Rattle.netsym.proofs.report.text.put_columns.Given as goal
 

@@ -1,4 +1,4 @@
-use Rattle.std.proofs.Common.{◌≡◌, ◌++◌, codes, decimal, string_bytes, map, flat_map, take}
+use Rattle.std.proofs.Common.{◌≡◌, ◌++◌, codes, string_bytes, flat_map, take}
 use Rattle.netsym.specs.Valuations.{given_of}
 use Rattle.netsym.specs.Texts.{input_text}
 use Rattle.netsym.proofs.report.text.put_more_entries.Given as goal

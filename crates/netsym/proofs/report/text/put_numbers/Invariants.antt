@@ -1,4 +1,4 @@
-use Rattle.std.proofs.Common.{◌≡◌, ◌++◌, codes, decimal, string_bytes, map, flat_map, take}
+use Rattle.std.proofs.Common.{◌≡◌, ◌++◌, codes, decimal, string_bytes, flat_map, take}
 use Rattle.netsym.proofs.report.text.put_numbers.Given as goal
 
 abbrev pub invariant-loop-number : goal.invariant-loop-number
