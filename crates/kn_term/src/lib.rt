@@ -1,13 +1,16 @@
-// A library with one function.
+//! Terms: formulas over the inputs of a network as lists of nodes, and valuations, which say what the inputs are.
 #![tactic(auto)]
 
-ghost use Rattle.std.specs.Prelude.{◌≡◌};
-ghost use Rattle.kn_term.specs.Echo.{echo_of};
+mod node;
+mod sharing;
+mod terms;
+mod valuation;
 
-// The `ensures` clause is the contract: what `echo` returns is `echo_of` of its argument, a definition
-// in `specs/Echo.antt`, which a caller's clause can cite too.
-pub fn echo(x: usize) -> usize
-    ensures { result ≡ echo_of x }
-{
-    x
-}
+pub use node::{Literal, Node, Ref};
+pub use sharing::shared;
+pub use std::alloc::AllocError as Memory;
+pub use terms::Terms;
+pub use valuation::Valuation;
+
+#[cfg(test)]
+mod tests;

@@ -1,0 +1,4 @@
+pub mod Kept
+pub mod Equal
+pub mod Placing
+pub mod Entries
