@@ -1,5 +1,5 @@
 -- Two nodes, and two entries of a valuation, are equal exactly where `==` says so.
-use Rattle.std.proofs.Common.{◌≡◌, ℕ, Bool, true, false, refl, ap, sym, ◌∙◌}
+use Rattle.std.proofs.Common.{◌≡◌, ℕ, ap, ◌∙◌}
 use Rattle.std.specs.Bool.{Decides}
 use Rattle.std.proofs.lemmas.Bool.Decides.{Decides-eqb}
 use Rattle.kn_built.proofs.Deciding.{decides_both, decides_same}
@@ -26,7 +26,8 @@ node_decides (Input a b c) (Input x y z) =
     decides_same _ (is_input a b c x y z) (input_is a b c x y z)
     (decides_both _ _ (Decides-eqb a x) (decides_both _ _ (Decides-eqb b y) (Decides-eqb c z)))
 
-same_given : (g h : Given) → (g.node ≡ h.node) × ((g.index ≡ h.index) × (g.word ≡ h.word)) → g ≡ h
+-- entries with the same fields are the same
+pub same_given : (g h : Given) → (g.node ≡ h.node) × ((g.index ≡ h.index) × (g.word ≡ h.word)) → g ≡ h
 same_given g h e =
     let by_node : g ≡ record g { node = h.node } = ap (λ (n : ℕ). record g { node = n }) e.0 in
     let by_index : record g { node = h.node } ≡ record h { word = g.word } = ap (λ (n : ℕ). record h { index = n; word = g.word }) e.1.0 in

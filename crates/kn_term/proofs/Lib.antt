@@ -2,3 +2,4 @@ pub mod Kept
 pub mod Equal
 pub mod Placing
 pub mod Entries
+pub mod OneList

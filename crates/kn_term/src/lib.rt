@@ -10,7 +10,7 @@ pub use node::{Literal, Node, Ref};
 pub use sharing::shared;
 pub use std::alloc::AllocError as Memory;
 pub use terms::Terms;
-pub use valuation::Valuation;
+pub use valuation::{Valuation, one_list};
 
 #[cfg(test)]
 mod tests;

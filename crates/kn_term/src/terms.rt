@@ -79,7 +79,8 @@ impl Terms {
         requires { r.index < length self.now }
         ensures { IfOk result (λ w. w ≡ ev a.now (term_at self.now r.index)) }
     {
-        let values = values_of(*self.nodes.allocator(), self.nodes.as_slice(), a)?;
+        let first = &self.nodes.as_slice()[..=r.index];
+        let values = values_of(*self.nodes.allocator(), first, a)?;
         Ok(values[r.index])
     }
 

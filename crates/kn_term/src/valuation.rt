@@ -3,7 +3,7 @@
 ghost use Rattle.std.specs.Prelude.{◌≡◌, ◌↔◌, ℕ, ◌<◌, ◌≤◌, ◌++◌, List, [], suc, take, drop, length, map, slice_get, IfOk, OnOk, OnErr, IsTrue, MatchOption, MatchResult, None, Some};
 ghost use Rattle.std.specs.Cmp.Lexicographic.{pointwise};
 ghost use Rattle.kn_term.specs.Terms.{listed};
-ghost use Rattle.kn_term.specs.Valuations.{precedes, is_of, entered, with_word, AreEntries};
+ghost use Rattle.kn_term.specs.Valuations.{precedes, is_of, entered, with_word, AreEntries, OneList};
 
 use std::alloc::{AllocError, Global};
 use std::marker::Model;
@@ -72,6 +72,8 @@ impl Valuation {
     /// valuation as it was.
     pub fn set(&mut self, node: u32, index: u32, value: u16) -> Result<(), AllocError>
         ensures ok { OnOk result (self.new ≡ with_word node index value self.old) }
+        ensures word { OnOk result (listed self.new node index ≡ value) }
+        ensures others { OnOk result ((n k : ℕ) → ((n ≡ node) × (k ≡ index) → ⊥) → listed self.new n k ≡ listed self.old n k) }
         ensures err { OnErr result (self.new ≡ self.old) }
     {
         put_word(&mut self.entries, node, index, value)
@@ -171,3 +173,8 @@ fn put_word(entries: &mut Vec<Given>, node: u32, index: u32, word: u16) -> Resul
         }
     }
 }
+
+/// The law that two valuations are equal where they give each input the same word.
+pub fn one_list()
+    ensures { OneList }
+{}
