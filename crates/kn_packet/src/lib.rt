@@ -1,13 +1,14 @@
-// A library with one function.
+//! Packets on their way between nodes, what a node may run, and queues of packets in order.
 #![tactic(auto)]
 
-ghost use Rattle.std.specs.Prelude.{◌≡◌};
-ghost use Rattle.kn_packet.specs.Echo.{echo_of};
+mod packet;
+mod queue;
+mod sharing;
 
-// The `ensures` clause is the contract: what `echo` returns is `echo_of` of its argument, a definition
-// in `specs/Echo.antt`, which a caller's clause can cite too.
-pub fn echo(x: usize) -> usize
-    ensures { result ≡ echo_of x }
-{
-    x
-}
+pub use packet::{Event, Packet, Stamp};
+pub use queue::Queue;
+pub use sharing::shared;
+pub use std::alloc::AllocError as Memory;
+
+#[cfg(test)]
+mod tests;

@@ -1,11 +1,18 @@
--- Two nodes, and two entries of a valuation, are equal exactly where `==` says so.
-use Rattle.std.proofs.Common.{◌≡◌, ℕ, ap, ◌∙◌}
+-- Nodes, what names them, and entries of a valuation are equal exactly where `==` says so.
+use Rattle.std.proofs.Common.{◌≡◌, ℕ, List, Bool, refl, ap, ◌∙◌}
 use Rattle.std.specs.Bool.{Decides}
 use Rattle.std.proofs.lemmas.Bool.Decides.{Decides-eqb}
 use Rattle.kn_built.proofs.Deciding.{decides_both, decides_same}
 use Rattle.kn_term.specs.declared.node.Node.{Node}
 use Rattle.kn_term.specs.declared.node.Node.TheVariants.{Konst, Input}
+use Rattle.kn_term.specs.declared.node.Ref.{Ref}
+use Rattle.kn_term.specs.declared.node.Literal.{Literal}
 use Rattle.kn_term.specs.declared.valuation.Given.{Given}
+use Rattle.kn_term.specs.contracts.node.RefPartialEq.TheImpl as ref_eq
+use Rattle.kn_term.specs.contracts.node.LiteralPartialEq.TheImpl as literal_eq
+use Rattle.kn_term.specs.contracts.terms.TermsPartialEq.TheImpl as terms_eq
+use Rattle.std.specs.Cmp.{booleans_Decides}
+use Rattle.std.proofs.lemmas.Slice.Eq.{slice_eq-Decides}
 use Rattle.kn_term.specs.contracts.node.NodePartialEq.TheImpl as node_eq
 use Rattle.kn_term.specs.contracts.valuation.GivenPartialEq.TheImpl as given_eq
 
@@ -37,3 +44,17 @@ pub given_decides : (g h : Given) → Decides (given_eq.eq-value.it g h) (g ≡ 
 given_decides g h =
     decides_same _ (same_given g h) (λ e. (ap (λ (x : Given). x.node) e, (ap (λ (x : Given). x.index) e, ap (λ (x : Given). x.word) e)))
     (decides_both _ _ (Decides-eqb g.node h.node) (decides_both _ _ (Decides-eqb g.index h.index) (Decides-eqb g.word h.word)))
+
+pub ref_decides : (r s : Ref) → Decides (ref_eq.eq-value.it r s) (r ≡ s)
+ref_decides r s = decides_same _ (λ e. ap (λ (n : ℕ). record r { index = n }) e) (λ e. ap (λ (x : Ref). x.index) e) (Decides-eqb r.index s.index)
+
+same_literal : (l m : Literal) → (l.term ≡ m.term) × (l.truth ≡ m.truth) → l ≡ m
+same_literal l m e = ap (λ (r : Ref). record l { term = r }) e.0 ∙ ap (λ (b : Bool). record m { truth = b }) e.1
+
+pub literal_decides : (l m : Literal) → Decides (literal_eq.eq-value.it l m) (l ≡ m)
+literal_decides l m =
+    decides_same _ (same_literal l m) (λ e. (ap (λ (x : Literal). x.term) e, ap (λ (x : Literal). x.truth) e))
+    (decides_both _ _ (ref_decides l.term m.term) (booleans_Decides l.truth m.truth))
+
+pub terms_decides : (xs ys : List Node) → Decides (terms_eq.eq-value.it xs ys) (xs ≡ ys)
+terms_decides xs ys = slice_eq-Decides node_decides xs ys (terms_eq.eq-value.it xs ys) refl
