@@ -1,13 +1,12 @@
-// A library with one function.
+//! The network that is explored, as a file gives it.
 #![tactic(auto)]
 
-ghost use Rattle.std.specs.Prelude.{◌≡◌};
-ghost use Rattle.kn_plan.specs.Echo.{echo_of};
+mod net;
+mod sharing;
 
-// The `ensures` clause is the contract: what `echo` returns is `echo_of` of its argument, a definition
-// in `specs/Echo.antt`, which a caller's clause can cite too.
-pub fn echo(x: usize) -> usize
-    ensures { result ≡ echo_of x }
-{
-    x
-}
+pub use net::{Limits, Link, Net, NodePlan};
+pub use sharing::shared;
+pub use std::alloc::AllocError as Memory;
+
+#[cfg(test)]
+mod tests;
