@@ -1,5 +1,5 @@
 -- Programs, plans, links, limits and networks are equal exactly where `==` says so.
-use Rattle.std.proofs.Common.{◌≡◌, ℕ, List, Bool, true, false, Option, eqb, refl, ap, sym, ◌∙◌}
+use Rattle.std.proofs.Common.{◌≡◌, ℕ, List, Bool, true, false, eqb, refl, ap, sym, ◌∙◌}
 use Rattle.std.specs.Prelude.{◌&&◌}
 use Rattle.std.specs.Bool.{Decides}
 use Rattle.std.specs.Option.{option_eq}

@@ -1,5 +1,5 @@
 -- When `==` says of two plans, and of two networks, that they are equal.
-use Rattle.std.specs.Prelude.{ℕ, Bool, nat_eq}
+use Rattle.std.specs.Prelude.{Bool, nat_eq}
 use Rattle.std.specs.Cmp.{IsPartialEquivalence, and_per, on_per, nat_eq_equiv, partial_equiv_from_equiv}
 use Rattle.std.specs.Ordering.{on, eq_of_both}
 use Rattle.std.specs.Cmp.Lexicographic.{pointwise, lists_per}
