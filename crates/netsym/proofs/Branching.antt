@@ -258,6 +258,9 @@ whole_kept net (s ∷ list) quiet = go (none_clashes (states_of s)) (whole_kept 
 pub whole_within : (net : Network) (t n : ℕ) (list : List States) → IsWithin net t n list → AreWhole net list
 whole_within net t n list is = subst (AreWhole net) (sym is.all) (whole_kept net (so_far net t n) is.quiet)
 
+pub whole_at : (net : Network) (t : ℕ) (list : List States) → IsAt net t list → AreWhole net list
+whole_at net t list is = subst (AreWhole net) (sym is.all) (whole_kept net (cob terms net t) is.quiet)
+
 -- nothing is fresh, so nothing changes as a tick is closed
 close_quiet : (ys : List (Node Term)) → AllByRecursion IsQuietNode ys → map close_node ys ≡ ys
 close_quiet [] all = refl

@@ -12,3 +12,13 @@ pub mod Failing
 pub mod Listed
 pub mod Placing
 pub mod Printed
+pub mod Making
+pub mod FormNet
+pub mod Words
+pub mod Ends
+pub mod Exactly
+pub mod FormTexts
+pub mod FormLeft
+pub mod FormPrograms
+pub mod FormNetworks
+pub mod FormFiles

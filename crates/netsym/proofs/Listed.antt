@@ -23,6 +23,7 @@ use Rattle.kn_model.proofs.Rising.{names_rise, rises_of_filtered}
 use Rattle.kn_model.proofs.Implied.{run_ends_as_member}
 use Rattle.kn_model.proofs.Named.{one_by_name}
 use Rattle.kn_model.proofs.Naming.{have_nodes}
+use Rattle.netsym.specs.Plain.{ArePlain}
 use Rattle.netsym.specs.Shown.{states_of, kept}
 use Rattle.netsym.specs.Listing.{report_of}
 use Rattle.netsym.proofs.Numbered.{some_one, contained_at, contains_at}
@@ -153,10 +154,6 @@ kept_or_lost xs s c = let at = contained_at xs s c in go (is_kept s) refl at.0 a
 
 itself : (xs : List (Scenario Term)) → AllByRecursion (Contains xs) xs
 itself xs = recursion_from_All (Contains xs) xs (All-contains_itself xs)
-
--- the own conditions of all states are constants and one-bit inputs alone
-abbrev pub ArePlain : List (List (State Term)) → Type 0
-ArePlain xs = AllByRecursion (λ (ss : List (State Term)). AllByRecursion (λ (s : State Term). IsPlain s.own) ss) xs
 
 plain_nodes : (ms : List (Scenario Term)) → ArePlain (lists ms) → AllByRecursion (λ (s : Scenario Term). AllByRecursion (λ (y : Node Term). IsPlain y.state.own) s.nodes) ms
 plain_nodes [] h = tt

@@ -78,7 +78,6 @@ of_boot_kept s = record {
 pub boot_paths_quiet : (net : Network) (n t : ℕ) (s : State Term) → IsValid (code_of net n) → IsQuietState s → AllByRecursion (IsBootPath s) (event_paths terms net n t Boot s)
 boot_paths_quiet net n t s valid q =
     let w = first_way terms (begun terms t Boot s) in
-    let still : begun terms t Boot s ≡ record s { booted = true } = refl in
     let start : OfBoot s w = ((record { timers = q.timers; queue = q.queue; reboots = q.reboots }, refl), λ h. ap clashes (append-nil s.own) ∙ h) in
     all-map (OfBoot s) (IsBootPath s) (path_of terms) (λ v p. record { quiet = record { timers = p.0.0.timers; queue = p.0.0.queue; reboots = p.0.0.reboots }; sends = p.0.1; dead = p.1 })
     (runs terms (here_without_mail net n t) 0 w) (all_runs (here_without_mail net n t) valid (OfBoot s) (of_boot_kept s) 0 w start)

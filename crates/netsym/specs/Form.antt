@@ -1,5 +1,5 @@
 -- The form of a network file that names programs and nodes alone.
-use Rattle.std.specs.Prelude.{◌≡◌, ◌≢◌, ℕ, zero, suc, ◌+◌, ◌≤◌, ◌<◌, ◌⊎◌, Bool, List, [], ◌∷◌, ◌++◌, length, map, flat_map, codes, decimal, drop, replicate, sum_by, Option, Some, None, Ok, slice_get, slice_index_or, Contains}
+use Rattle.std.specs.Prelude.{◌≡◌, ◌≢◌, ℕ, zero, suc, ◌+◌, ◌≤◌, ◌<◌, ◌⊎◌, Bool, true, false, List, [], ◌∷◌, ◌++◌, length, map, flat_map, codes, decimal, drop, replicate, sum_by, count_by, Option, Some, None, Ok, slice_get, slice_index_or, Contains}
 use Rattle.std.specs.List.{AllByRecursion}
 use Rattle.hex.specs.Hex.{decode_of}
 use Rattle.kn_code.specs.declared.program.Instr.{Instr}
@@ -64,11 +64,12 @@ pub record IsProgramOf (text : ProgramText) (code : Code) : Type 0 where
   pub valid : IsValid code
   pub boots : IsBootProgram code
 
-abbrev pub ArePrograms : List ProgramText → List Code → Type 0
-ArePrograms [] [] = Unit {0}
-ArePrograms [] (c ∷ cs) = ⊥
-ArePrograms (t ∷ ts) [] = ⊥
-ArePrograms (t ∷ ts) (c ∷ cs) = IsProgramOf t c × ArePrograms ts cs
+-- one of these for each of those, in their order
+abbrev pub EachOf : {X Y : Type 0} → (X → Y → Type 0) → List X → List Y → Type 0
+EachOf R [] [] = Unit {0}
+EachOf R [] (y ∷ ys) = ⊥
+EachOf R (x ∷ xs) [] = ⊥
+EachOf R (x ∷ xs) (y ∷ ys) = R x y × EachOf R xs ys
 
 abbrev pub names_of : List ProgramText → List (List ℕ)
 names_of ts = map (λ (t : ProgramText). t.name) ts
@@ -78,39 +79,48 @@ abbrev pub AreDifferent : List (List ℕ) → Type 0
 AreDifferent [] = Unit {0}
 AreDifferent (x ∷ xs) = AllByRecursion (λ y. x ≢ y) xs × AreDifferent xs
 
--- the place of each node's program among the names
-abbrev pub ArePlaces : List (List ℕ) → List (List ℕ) → List ℕ → Type 0
-ArePlaces names [] [] = Unit {0}
-ArePlaces names [] (p ∷ ps) = ⊥
-ArePlaces names (n ∷ ns) [] = ⊥
-ArePlaces names (n ∷ ns) (p ∷ ps) = (slice_get names p ≡ Some n) × ArePlaces names ns ps
+-- the place of a name among the names
+abbrev pub IsPlaceOf : List (List ℕ) → List ℕ → ℕ → Type 0
+IsPlaceOf names name place = slice_get names place ≡ Some name
 
 -- `brz` and `assert` decide
-abbrev pub decides : Instr → ℕ
-decides (Brz a to) = 1
-decides (Assert a) = 1
-decides other = 0
+abbrev pub decides : Instr → Bool
+decides (Brz a to) = true
+decides (Assert a) = true
+decides other = false
 
 abbrev pub decisions_of : Code → ℕ
-decisions_of code = sum_by decides code.instrs
+decisions_of code = count_by decides code.instrs
 
 abbrev pub decisions_at : List Code → ℕ → ℕ
 decisions_at programs p = decisions_of (slice_index_or programs p no_code)
 
--- A file of the form, and the network that it describes: at most one tick, 1 to 64 programs with different names, 1 to 64
--- nodes that each name a program, and at most 12 deciding instructions, counted node by node.
-pub record IsFile (bytes : List ℕ) (net : Network) : Type 0 where
-  pub text : FileText
-  pub spelled : bytes ≡ file_bytes text
+-- at most one tick, 1 to 64 programs and 1 to 64 nodes
+pub record HasCounts (text : FileText) : Type 0 where
   pub ticks : text.ticks ≤ 1
   pub some_programs : 1 ≤ length text.programs
   pub most_programs : length text.programs ≤ 64
-  pub programs : List Code
-  pub are_programs : ArePrograms text.programs programs
-  pub different : AreDifferent (names_of text.programs)
   pub some_nodes : 1 ≤ length text.nodes
   pub most_nodes : length text.nodes ≤ 64
+
+-- The network that the texts describe: programs with different names, nodes that each name a program, and at most 12
+-- deciding instructions, counted node by node.
+pub record Describes (text : FileText) (net : Network) : Type 0 where
+  pub programs : List Code
+  pub are_programs : EachOf IsProgramOf text.programs programs
+  pub different : AreDifferent (names_of text.programs)
   pub places : List ℕ
-  pub are_places : ArePlaces (names_of text.programs) text.nodes places
+  pub are_places : EachOf (IsPlaceOf (names_of text.programs)) text.nodes places
   pub decisions : sum_by (decisions_at programs) places ≤ 12
   pub network : net ≡ network_with text.ticks programs places
+
+-- A file of the form, and the network that it describes.
+pub record IsFile (bytes : List ℕ) (net : Network) : Type 0 where
+  pub text : FileText
+  pub spelled : bytes ≡ file_bytes text
+  pub counts : HasCounts text
+  pub describes : Describes text net
+
+-- bytes are a file of one network alone
+abbrev pub OneNetwork : Type 0
+OneNetwork = (bytes : List ℕ) (net other : Network) → IsFile bytes net → IsFile bytes other → net ≡ other

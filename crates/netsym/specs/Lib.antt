@@ -6,6 +6,12 @@ pub mod Stepped
 pub mod Branch
 pub mod Valuations
 pub mod ReportViews
+pub mod Plain
 pub mod Listing
 pub mod Texts
 pub mod Form
+pub mod Statuses
+pub mod Runs
+pub mod Exact
+pub mod FormReading
+pub mod FormViews

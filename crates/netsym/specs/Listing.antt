@@ -1,5 +1,5 @@
 -- The report of a list of scenarios, each given by the states of its nodes.
-use Rattle.std.specs.Prelude.{ℕ, zero, suc, ◌+◌, if◌then◌else◌, List, [], ◌∷◌, ◌++◌, length, flat_map}
+use Rattle.std.specs.Prelude.{ℕ, zero, suc, ◌+◌, if◌then◌else◌, Bool, true, false, List, [], ◌∷◌, ◌++◌, length, flat_map}
 use Rattle.kn_model.specs.Terms.{Term}
 use Rattle.kn_model.specs.Nodes.{State, Outcome, Running, Halted, Failed}
 use Rattle.kn_model.specs.Nets.{Network}
@@ -30,11 +30,14 @@ dstates_from nodes i (ss ∷ list) = singles nodes i ∷ dstates_from nodes (i +
 abbrev pub reach_of : (nodes d i : ℕ) → Condition → Reach
 reach_of nodes d i c = if clashes c then Nowhere else At d (numbers nodes i) (forced c)
 
+abbrev pub is_failure : Outcome → Bool
+is_failure Running = false
+is_failure Halted = false
+is_failure (Failed kind pc tick) = true
+
 -- the failure line of a state, if it failed
 abbrev pub failure_of : ℕ → Reach → Outcome → List FailureLine
-failure_of i reach Running = []
-failure_of i reach Halted = []
-failure_of i reach (Failed kind pc tick) = record { state = i; reach = reach } ∷ []
+failure_of i reach outcome = if is_failure outcome then record { state = i; reach = reach } ∷ [] else []
 
 -- the failure lines of the nodes from n on of a scenario, whose states have the numbers from i on
 abbrev pub failures_in : (i n : ℕ) → Reach → List (State Term) → List FailureLine

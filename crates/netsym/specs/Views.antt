@@ -1,5 +1,5 @@
 -- What the values of the program are in the definitions.
-use Rattle.std.specs.Prelude.{ℕ, Bool, List, []}
+use Rattle.std.specs.Prelude.{ℕ, Bool, true, false, List, []}
 use Rattle.kn_model.specs.Values.{Literal}
 use Rattle.kn_model.specs.Terms.{Term, Word, Input, terms}
 use Rattle.kn_model.specs.Nodes.{State, zeros, unset, Outcome as Outcomes, Running as runs, Halted as halts, Failed as fails, FailKind as FailKinds, Assert as asserts, Bounds as bounds, Fuel as fuels}
@@ -28,6 +28,11 @@ abbrev pub outcome_of : Outcome → Outcomes
 outcome_of outcomes.Running = runs
 outcome_of outcomes.Halted = halts
 outcome_of (outcomes.Failed kind pc tick) = fails (kind_of kind) pc tick
+
+abbrev pub is_failed : Outcomes → Bool
+is_failed runs = false
+is_failed halts = false
+is_failed (fails kind pc tick) = true
 
 -- a state in which all that a boot does not change is as at a node's start
 abbrev pub state_with : List Term → ℕ → Bool → Outcomes → List Bool → List (Literal Term) → State Term

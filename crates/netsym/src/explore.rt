@@ -11,4 +11,7 @@ mod way;
 pub use branch::explore;
 pub use scenario::Scenario;
 pub use state::{FailKind, NodeState, Outcome};
-pub use value::{Decision, Value};
+pub use value::{Decision, Value, are_opposed};
+
+#[cfg(test)]
+mod tests;

@@ -1,7 +1,18 @@
 //! netsym: symbolic execution of a whole network of small nodes.
 #![tactic(auto)]
 
+mod answer;
 mod explore;
+mod form;
 mod net;
+mod output;
 mod report;
+mod status;
+mod top;
 mod valuation;
+
+pub use status::Status;
+pub use top::{run_alone, words_ok};
+
+#[cfg(test)]
+mod tests;

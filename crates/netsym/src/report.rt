@@ -6,6 +6,7 @@ use kn_trace::Trace;
 use std::alloc::Global;
 use std::marker::Model;
 
+pub mod making;
 pub mod text;
 
 /// How scenarios are grouped into dstates.

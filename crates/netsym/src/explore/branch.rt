@@ -94,9 +94,10 @@ fn run_tick(
     Ok(list)
 }
 
-/// All scenarios of copying on branch at the network's last tick, in the order of exploration, but for those in which a node's own condition clashes. They are as the copying makes them: bit 0 before bit 1, and of the nodes the first one first.
+/// The scenarios of copying on branch at the network's last tick, each once, but for those in which a node's own condition clashes: no inputs lead there. They come in the order of exploration, by the first node's path first, and bit 0 before bit 1.
 pub fn explore(alloc: Global, net: &Net) -> Result<Vec<Scenario>, AllocError>
-    ensures { IfOk result (λ v. v.items ≡ kept net.now net.now.limits.ticks) }
+    ensures all { IfOk result (λ v. v.items ≡ kept net.now net.now.limits.ticks) }
+    ensures whole { IfOk result (λ v. AreWhole net.now v.items) }
 {
     let mut list = Vec::new(alloc);
     list.push(Scenario::opening(alloc, net)?)?;

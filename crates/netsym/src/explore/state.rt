@@ -4,7 +4,7 @@ ghost use Rattle.std.specs.Prelude.{◌≡◌, ◌++◌, map, ◌+◌, ◌-◌, 
 ghost use Rattle.kn_model.specs.Terms.{Word, terms};
 ghost use Rattle.kn_model.specs.Nodes.{is_running, state_of};
 ghost use Rattle.kn_model.specs.Deciding.{IsPlain, clashes};
-ghost use Rattle.netsym.specs.Views.{term_of, literal_of, outcome_of};
+ghost use Rattle.netsym.specs.Views.{term_of, literal_of, outcome_of, is_failed};
 ghost use Rattle.netsym.specs.Branch.{IsQuietState};
 
 use crate::explore::value::{Decision, Value};
@@ -101,6 +101,13 @@ impl NodeState {
         matches!(self.outcome, Outcome::Running)
     }
 
+    /// Whether it ended by a failure.
+    pub fn is_failed(&self) -> bool
+        ensures { result ≡ is_failed self.now.outcome }
+    {
+        matches!(self.outcome, Outcome::Failed { .. })
+    }
+
     /// How it ended, if it did.
     pub fn outcome(&self) -> Outcome
         ensures { outcome_of result ≡ self.now.outcome }
@@ -119,7 +126,7 @@ impl NodeState {
     pub fn own(&self) -> &[Decision]
         ensures value { map literal_of result.now ≡ self.now.own }
         ensures plain { IsPlain self.now.own }
-        ensures open { clashes self.now.own ≡ false }
+        ensures fits { clashes self.now.own ≡ false }
     {
         &self.own
     }

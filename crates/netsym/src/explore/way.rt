@@ -47,7 +47,7 @@ impl WaySoFar {
     pub fn new(alloc: Global, state: NodeState) -> WaySoFar
         ensures { result ≡ first_way terms state }
     {
-        let _open = state.own();
+        let _fits = state.own();
         WaySoFar {
             state,
             pc: 0,

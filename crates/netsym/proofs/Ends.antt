@@ -1,0 +1,60 @@
+-- How a call of the program ends.
+use Rattle.std.proofs.Common.{◌≡◌, ◌⊎◌, inl, inr, ℕ, zero, suc, ◌+◌, ◌≤◌, Bool, true, false, cond, List, [], ◌∷◌, ◌++◌, length, Option, Some, None, Result, Ok, Err, refl, sym, ap, subst, ◌∙◌, arith}
+use Rattle.std.specs.Prelude.{OnOk, OnErr, is_ok, IsTrue, ◌↔◌, nat_eq}
+use Rattle.std.specs.Io.KnownBytes.{Appends, Consumes, Keeps, IsAtEnd}
+use Rattle.std.proofs.lemmas.Bool.{eqb-true, eq-eqb}
+use Rattle.kn_io.specs.Reading.{TakesAtMost, TakesExactly}
+use Rattle.kn_io.specs.Writing.{TakesFront}
+use Rattle.kn_model.specs.Nets.{Network}
+use Rattle.kn_model.specs.Reports.{Report, Gives}
+use Rattle.netsym.specs.declared.status.Status.{Status}
+use Rattle.netsym.specs.declared.status.Status.TheVariants as statuses
+use Rattle.netsym.specs.Texts.{reached_in}
+use Rattle.netsym.specs.Form.{IsFile}
+use Rattle.netsym.specs.Runs.{IsCommand, IsRight, IsWritten, IsReportOn, IsTold, Reads, Answers, limit, not_form_line}
+
+pub written_by : {T E : Type 0} (taken taken' : Option (List ℕ)) (text : List ℕ) (verdict status : Status) (r : Result T E) → status ≡ cond (is_ok r) verdict statuses.WriteFault
+    → OnOk r (Appends taken taken' text) → OnErr r ((rest : List ℕ) × TakesFront taken taken' text rest) → IsWritten taken taken' text verdict status
+written_by taken taken' text verdict status (Ok x) is whole front = inl (is, whole)
+written_by taken taken' text verdict status (Err e) is whole front = inr (is, front)
+
+pub keeps_same : (a : Option (List ℕ)) → Keeps a a
+keeps_same None = tt
+keeps_same (Some xs) = refl
+
+pub not_command : {P : Type 0} (b : Bool) → (IsTrue b ↔ P) → b ≡ false → P → ⊥
+not_command b h e p = let yes : b ≡ true = h.1 p in let both : true ≡ false = sym yes ∙ e in cc
+
+pub is_command : {P : Type 0} (b : Bool) → (IsTrue b ↔ P) → b ≡ true → P
+is_command b h e = h.0 e
+
+-- what was read to its end was taken
+pub taken_whole : (left left' : Option (List ℕ)) (bytes : List ℕ) → Reads left left' bytes → TakesAtMost (limit + 1) left left'
+taken_whole left left' bytes reads = (bytes, reads.all, (let fits = reads.fits in omega (arith, fits)))
+
+pub refused_answers : (bytes : List ℕ) (status : Status) (text : List ℕ) → status ≡ statuses.Refused → ((net : Network) → IsFile bytes net → ⊥) → text ≡ not_form_line → Answers bytes status text
+refused_answers bytes status text is none text-is = subst (λ (s : Status). Answers bytes s text) (sym is) (none, text-is)
+
+-- the answer on the network of the file
+pub told_answers : (bytes : List ℕ) (net : Network) (status : Status) (text : List ℕ) → IsFile bytes net → IsTold net status text → Answers bytes status text
+told_answers bytes net status text form told = subst (λ (s : Status). Answers bytes s text) (sym told.status_is) (go (nat_eq (reached_in told.report) 0) refl)
+  where
+    on : IsReportOn bytes text told.report
+    on = record { net = net; form = form; given = told.given; mapping = told.mapping; text_is = told.text_is }
+
+    some : (n : ℕ) → nat_eq n 0 ≡ false → 1 ≤ n
+    some n e = elim (n) as (λ (m : ℕ). nat_eq m 0 ≡ false → 1 ≤ m) [ zero ↦ λ h. absurd cc | suc m ↦ λ h. omega arith ] e
+
+    go : (b : Bool) → nat_eq (reached_in told.report) 0 ≡ b → Answers bytes (cond b statuses.Clean statuses.Found) text
+    go true e = (told.report, on, eqb-true (reached_in told.report) 0 e)
+    go false e = (told.report, on, some (reached_in told.report) e)
+
+-- what is right for the bytes is right for the source that had them
+pub right_by : (words : List (List ℕ)) (left left' : Option (List ℕ)) (bytes : List ℕ) (status : Status) (text : List ℕ) → IsCommand words → Reads left left' bytes → Answers bytes status text → IsRight words left left' status text
+right_by words left left' bytes statuses.Clean text command reads h = (command, bytes, reads, h)
+right_by words left left' bytes statuses.Found text command reads h = (command, bytes, reads, h)
+right_by words left left' bytes statuses.Refused text command reads h = (command, inr (bytes, reads, h))
+right_by words left left' bytes statuses.Usage text command reads h = absurd h
+right_by words left left' bytes statuses.ReadFault text command reads h = absurd h
+right_by words left left' bytes statuses.WriteFault text command reads h = absurd h
+right_by words left left' bytes statuses.Memory text command reads h = absurd h

@@ -1,0 +1,101 @@
+-- From what a call does follows exactly when each status comes.
+use Rattle.std.proofs.Common.{◌≡◌, ◌⊎◌, inl, inr, ℕ, ◌+◌, ◌≤◌, ◌<◌, List, [], ◌∷◌, ◌++◌, length, Option, Some, None, refl, sym, ap, subst, ◌∙◌, arith}
+use Rattle.std.specs.Io.KnownBytes.{Appends, Consumes, Keeps, IsAtEnd}
+use Rattle.std.proofs.lemmas.List.{append-nil, length-append}
+use Rattle.kn_io.specs.Reading.{TakesExactly}
+use Rattle.kn_model.specs.Nets.{Network}
+use Rattle.netsym.specs.declared.status.Status.{Status}
+use Rattle.netsym.specs.declared.status.Status.TheVariants as statuses
+use Rattle.netsym.specs.Form.{IsFile}
+use Rattle.netsym.specs.Runs.{IsCommand, IsRight, IsWritten, Reads, Runs, limit}
+use Rattle.netsym.specs.Exact.{EndsAs, IsUsage, IsHindered, IsPrinted, IsDescribed, IsExact}
+
+-- what was read to the end of a source that holds these bytes is these bytes
+read_is : (left' : Option (List ℕ)) (bytes read : List ℕ) → Consumes (Some bytes) left' read → IsAtEnd left' → read ≡ bytes
+read_is None bytes read c e = absurd c
+read_is (Some rest) bytes read c e = sym (c ∙ (ap (λ (l : List ℕ). read ++ l) e ∙ append-nil read))
+
+-- no more can be taken than is there
+too_many : (left' : Option (List ℕ)) (bytes taken : List ℕ) → Consumes (Some bytes) left' taken → length taken ≤ length bytes
+too_many None bytes taken c = absurd c
+too_many (Some rest) bytes taken c = let same : length bytes ≡ length taken + length rest = ap length c ∙ length-append taken rest in omega (arith, same)
+
+status_is : (P : Status → Type 0) (words : List (List ℕ)) (left left' taken taken' : Option (List ℕ)) (status : Status) → (run : Runs words left left' taken taken' status) → P run.verdict → P statuses.WriteFault → P status
+status_is P words left left' taken taken' status run right fault = elim run.written [ inl h ↦ subst P (sym h.0) right | inr h ↦ subst P (sym h.0) fault ]
+
+pub usage_exactly : (words : List (List ℕ)) (left left' taken taken' : Option (List ℕ)) (status : Status) → Runs words left left' taken taken' status → IsUsage words status
+usage_exactly words left left' taken taken' status run = record {
+  only = λ is. elim run.written [ inl h ↦ (subst (λ (v : Status). IsRight words left left' v run.text) (sym h.0 ∙ is) run.right).0 | inr h ↦ absurd (let wrong : statuses.WriteFault ≡ statuses.Usage = sym h.0 ∙ is in cc) ];
+  always = λ none. status_is (λ s. EndsAs s statuses.Usage) words left left' taken taken' status run (only_usage run.verdict run.text none run.right) (inr refl);
+}
+  where
+    only_usage : (v : Status) (text : List ℕ) → (IsCommand words → ⊥) → IsRight words left left' v text → EndsAs v statuses.Usage
+    only_usage statuses.Usage text none r = inl refl
+    only_usage statuses.Clean text none r = absurd (none r.0)
+    only_usage statuses.Found text none r = absurd (none r.0)
+    only_usage statuses.Refused text none r = absurd (none r.0)
+    only_usage statuses.ReadFault text none r = absurd (none r.0)
+    only_usage statuses.WriteFault text none r = absurd r
+    only_usage statuses.Memory text none r = absurd (none r.0)
+
+module _ (words : List (List ℕ)) (left left' taken taken' : Option (List ℕ)) (status : Status) (run : Runs words left left' taken taken' status) (bytes : List ℕ) (holds : left ≡ Some bytes) (command : IsCommand words) where
+  described_by : (read : List ℕ) → Reads left left' read → (net : Network) → IsFile read net → IsDescribed bytes
+  described_by read reads net form =
+      let same = read_is left' bytes read (subst (λ (l : Option (List ℕ)). Consumes l left' read) holds reads.all) reads.end in
+      (subst (λ (l : List ℕ). length l ≤ limit) same reads.fits, net, subst (λ (l : List ℕ). IsFile l net) same form)
+
+  -- a printed report is on what the bytes describe
+  verdict_printed : (v : Status) (text : List ℕ) → IsRight words left left' v text → IsPrinted v → IsDescribed bytes
+  verdict_printed statuses.Clean text r p = described_by r.1 r.2 r.3.1.net r.3.1.form
+  verdict_printed statuses.Found text r p = described_by r.1 r.2 r.3.1.net r.3.1.form
+  verdict_printed statuses.Usage text r p = absurd p
+  verdict_printed statuses.Refused text r p = absurd p
+  verdict_printed statuses.ReadFault text r p = absurd p
+  verdict_printed statuses.WriteFault text r p = absurd p
+  verdict_printed statuses.Memory text r p = absurd p
+
+  -- refused bytes describe nothing
+  verdict_refused : (text : List ℕ) → IsRight words left left' statuses.Refused text → IsDescribed bytes → ⊥
+  verdict_refused text r described =
+      elim r.1 [
+        | inl long ↦
+            let most = too_many left' bytes long.0.0 (subst (λ (l : Option (List ℕ)). Consumes l left' long.0.0) holds long.0.1) in
+            let fits = described.0 in
+            let many = long.0.2 in
+            omega (arith, most, many, fits)
+        | inr read ↦
+            let same = read_is left' bytes read.0 (subst (λ (l : Option (List ℕ)). Consumes l left' read.0) holds read.1.all) read.1.end in
+            read.2.0 described.1 (subst (λ (l : List ℕ). IsFile l described.1) (sym same) described.2)
+      ]
+
+  verdict_prints : (v : Status) (text : List ℕ) → IsRight words left left' v text → IsDescribed bytes → IsPrinted v ⊎ IsHindered v
+  verdict_prints statuses.Clean text r d = inl tt
+  verdict_prints statuses.Found text r d = inl tt
+  verdict_prints statuses.Usage text r d = absurd (r.0 command)
+  verdict_prints statuses.Refused text r d = absurd (verdict_refused text r d)
+  verdict_prints statuses.ReadFault text r d = inr tt
+  verdict_prints statuses.WriteFault text r d = absurd r
+  verdict_prints statuses.Memory text r d = inr tt
+
+  verdict_refuses : (v : Status) (text : List ℕ) → IsRight words left left' v text → (IsDescribed bytes → ⊥) → (v ≡ statuses.Refused) ⊎ IsHindered v
+  verdict_refuses statuses.Clean text r none = absurd (none (verdict_printed statuses.Clean text r tt))
+  verdict_refuses statuses.Found text r none = absurd (none (verdict_printed statuses.Found text r tt))
+  verdict_refuses statuses.Usage text r none = absurd (r.0 command)
+  verdict_refuses statuses.Refused text r none = inl refl
+  verdict_refuses statuses.ReadFault text r none = inr tt
+  verdict_refuses statuses.WriteFault text r none = absurd r
+  verdict_refuses statuses.Memory text r none = inr tt
+
+  pub exact_by : IsExact bytes status
+  exact_by = record {
+    refused = λ is. elim run.written [
+      | inl h ↦ verdict_refused run.text (subst (λ (v : Status). IsRight words left left' v run.text) (sym h.0 ∙ is) run.right)
+      | inr h ↦ absurd (let wrong : statuses.WriteFault ≡ statuses.Refused = sym h.0 ∙ is in cc)
+    ];
+    printed = λ p. elim run.written [
+      | inl h ↦ verdict_printed run.verdict run.text run.right (subst IsPrinted h.0 p)
+      | inr h ↦ absurd (subst IsPrinted h.0 p)
+    ];
+    refuses = λ none. status_is (λ s. (s ≡ statuses.Refused) ⊎ IsHindered s) words left left' taken taken' status run (verdict_refuses run.verdict run.text run.right none) (inr tt);
+    prints = λ d. status_is (λ s. IsPrinted s ⊎ IsHindered s) words left left' taken taken' status run (verdict_prints run.verdict run.text run.right d) (inr tt);
+  }

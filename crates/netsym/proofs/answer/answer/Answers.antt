@@ -1,0 +1,11 @@
+use Rattle.std.proofs.Common.{ap, Err}
+use Rattle.netsym.proofs.FormNet.{file_is_net}
+use Rattle.netsym.proofs.Ends.{refused_answers}
+use Rattle.netsym.proofs.answer.answer.Goals as goal
+
+pub reported-requires : goal.reported-requires
+reported-requires c = file_is_net c.args.bytes.now c.in-Ok.net c.in-Ok.ensures.found
+
+pub returns-in_ok-told-in-Err-NotForm : goal.returns-in_ok-told-in-Err-NotForm
+returns-in_ok-told-in-Err-NotForm c =
+    refused_answers c.args.bytes.now c.in_ok-told-in-Err-NotForm.told.status _ c.in_ok-told-in-Err-NotForm.ensures.0 (c.in-Err-NotForm.ensures.none (ap (λ e. Err e) c.in-Err-NotForm.field-0-is)) c.in_ok-told-in-Err-NotForm.ensures.1

@@ -1,0 +1,40 @@
+-- Exactly when each status comes.
+use Rattle.std.specs.Prelude.{◌≡◌, ◌⊎◌, ◌≤◌, ◌<◌, ℕ, List, length}
+use Rattle.kn_model.specs.Nets.{Network}
+use Rattle.netsym.specs.Form.{IsFile}
+use Rattle.netsym.specs.Runs.{IsCommand, limit}
+use Rattle.netsym.specs.declared.status.Status.{Status}
+use Rattle.netsym.specs.declared.status.Status.TheVariants as statuses
+
+-- this status, or a write fault in its place
+abbrev pub EndsAs : Status → Status → Type 0
+EndsAs status verdict = (status ≡ verdict) ⊎ (status ≡ statuses.WriteFault)
+
+-- Usage comes exactly where the words are not the command.
+pub record IsUsage (words : List (List ℕ)) (status : Status) : Type 0 where
+  pub only : status ≡ statuses.Usage → IsCommand words → ⊥
+  pub always : (IsCommand words → ⊥) → EndsAs status statuses.Usage
+
+-- a read fault, a write fault or want of memory
+abbrev pub IsHindered : Status → Type 0
+IsHindered statuses.ReadFault = Unit {0}
+IsHindered statuses.WriteFault = Unit {0}
+IsHindered statuses.Memory = Unit {0}
+IsHindered other = ⊥
+
+-- the report was printed
+abbrev pub IsPrinted : Status → Type 0
+IsPrinted statuses.Clean = Unit {0}
+IsPrinted statuses.Found = Unit {0}
+IsPrinted other = ⊥
+
+abbrev pub IsDescribed : List ℕ → Type 0
+IsDescribed bytes = (length bytes ≤ limit) × (net : Network) × IsFile bytes net
+
+-- For the words of the command and a source that holds these bytes: the report is printed exactly where they describe a
+-- network, and they are refused exactly where they do not, but where a fault or want of memory hinders it.
+pub record IsExact (bytes : List ℕ) (status : Status) : Type 0 where
+  pub refused : status ≡ statuses.Refused → IsDescribed bytes → ⊥
+  pub printed : IsPrinted status → IsDescribed bytes
+  pub refuses : (IsDescribed bytes → ⊥) → (status ≡ statuses.Refused) ⊎ IsHindered status
+  pub prints : IsDescribed bytes → IsPrinted status ⊎ IsHindered status

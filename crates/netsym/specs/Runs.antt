@@ -1,0 +1,94 @@
+-- What a call of the program does.
+use Rattle.std.specs.Prelude.{◌≡◌, ◌⊎◌, ◌≤◌, ℕ, ◌+◌, List, [], ◌∷◌, ◌++◌, length, map, codes, nat_eq, if◌then◌else◌}
+use Rattle.std.specs.declared.option.Option.{Option}
+use Rattle.std.specs.Io.KnownBytes.{Appends, Consumes, Keeps, IsAtEnd}
+use denote.Ref.{Bor}
+use Rattle.kn_io.specs.Reading.{TakesExactly, TakesAtMost}
+use Rattle.kn_io.specs.Writing.{TakesFront}
+use Rattle.kn_model.specs.Nets.{Network}
+use Rattle.kn_model.specs.Reports.{Report, Cob, Gives}
+use Rattle.netsym.specs.Texts.{report_text, reached_in}
+use Rattle.netsym.specs.Form.{IsFile}
+use Rattle.netsym.specs.declared.status.Status.{Status}
+use Rattle.netsym.specs.declared.status.Status.TheVariants as statuses
+
+abbrev pub words_of : List (Bor (List ℕ)) → List (List ℕ)
+words_of words = map (λ (w : Bor (List ℕ)). w.now) words
+
+-- the words are those of the one command
+abbrev pub IsCommand : List (List ℕ) → Type 0
+IsCommand words = words ≡ codes "explore" ∷ codes "--mapping" ∷ codes "cob" ∷ []
+
+-- the most bytes of a file
+abbrev pub limit : ℕ
+limit = 1048576
+
+-- all bytes of the source, up to its end, and no more than the limit
+pub record Reads (left left' : Option (List ℕ)) (bytes : List ℕ) : Type 0 where
+  pub all : Consumes left left' bytes
+  pub end : IsAtEnd left'
+  pub fits : length bytes ≤ limit
+
+-- The text is that of a report on the network of the file: what copying the whole network at every branch gives.
+pub record IsReportOn (bytes : List ℕ) (text : List ℕ) (r : Report) : Type 0 where
+  pub net : Network
+  pub form : IsFile bytes net
+  pub given : Gives r net
+  pub mapping : r.mapping ≡ Cob
+  pub text_is : text ≡ report_text r
+
+-- the text is that of a report on the network, and the status says whether a failure is reached
+pub record IsTold (net : Network) (status : Status) (text : List ℕ) : Type 0 where
+  pub report : Report
+  pub given : Gives report net
+  pub mapping : report.mapping ≡ Cob
+  pub status_is : status ≡ (if nat_eq (reached_in report) 0 then statuses.Clean else statuses.Found)
+  pub text_is : text ≡ report_text report
+
+abbrev pub usage_line : List ℕ
+usage_line = codes "netsym: not a command line\n"
+
+abbrev pub too_long_line : List ℕ
+too_long_line = codes "netsym: refused F1 -\n"
+
+abbrev pub not_form_line : List ℕ
+not_form_line = codes "netsym: refused F0 -\n"
+
+abbrev pub read_fault_line : List ℕ
+read_fault_line = codes "netsym: read fault\n"
+
+abbrev pub memory_line : List ℕ
+memory_line = codes "netsym: out of memory\n"
+
+-- The status and the text that are right for some bytes: no failure is reached, or one is, or no network is described.
+abbrev pub Answers : List ℕ → Status → List ℕ → Type 0
+Answers bytes statuses.Clean text = (r : Report) × IsReportOn bytes text r × (reached_in r ≡ 0)
+Answers bytes statuses.Found text = (r : Report) × IsReportOn bytes text r × (1 ≤ reached_in r)
+Answers bytes statuses.Refused text = ((net : Network) → IsFile bytes net → ⊥) × (text ≡ not_form_line)
+Answers bytes statuses.Usage text = ⊥
+Answers bytes statuses.ReadFault text = ⊥
+Answers bytes statuses.WriteFault text = ⊥
+Answers bytes statuses.Memory text = ⊥
+
+-- The status and the text that are right for the words and for what was read, before anything is written.
+abbrev pub IsRight : List (List ℕ) → Option (List ℕ) → Option (List ℕ) → Status → List ℕ → Type 0
+IsRight words left left' statuses.Clean text = IsCommand words × (bytes : List ℕ) × Reads left left' bytes × Answers bytes statuses.Clean text
+IsRight words left left' statuses.Found text = IsCommand words × (bytes : List ℕ) × Reads left left' bytes × Answers bytes statuses.Found text
+IsRight words left left' statuses.Usage text = (IsCommand words → ⊥) × Keeps left left' × (text ≡ usage_line)
+IsRight words left left' statuses.Refused text = IsCommand words × (
+    (TakesExactly (limit + 1) left left' × (text ≡ too_long_line))
+    ⊎ ((bytes : List ℕ) × Reads left left' bytes × Answers bytes statuses.Refused text))
+IsRight words left left' statuses.ReadFault text = IsCommand words × TakesAtMost limit left left' × (text ≡ read_fault_line)
+IsRight words left left' statuses.WriteFault text = ⊥
+IsRight words left left' statuses.Memory text = IsCommand words × TakesAtMost (limit + 1) left left' × (text ≡ memory_line)
+
+-- the whole text went out, or a front of it, and then the status is a write fault
+abbrev pub IsWritten : Option (List ℕ) → Option (List ℕ) → List ℕ → Status → Status → Type 0
+IsWritten taken taken' text verdict status = ((status ≡ verdict) × Appends taken taken' text) ⊎ ((status ≡ statuses.WriteFault) × ((rest : List ℕ) × TakesFront taken taken' text rest))
+
+-- A call of the program: the status and the text that are right, and how the text went out.
+pub record Runs (words : List (List ℕ)) (left left' taken taken' : Option (List ℕ)) (status : Status) : Type 0 where
+  pub verdict : Status
+  pub text : List ℕ
+  pub right : IsRight words left left' verdict text
+  pub written : IsWritten taken taken' text verdict status

@@ -1,0 +1,88 @@
+//! What the program answers to a network file.
+
+ghost use Rattle.std.specs.Prelude.{◌≡◌, ◌≤◌, ℕ, IfOk, string_bytes, nat_eq, if◌then◌else◌};
+ghost use Rattle.std.specs.List.{flat_map};
+ghost use Rattle.kn_model.specs.Laws.{IsNet};
+ghost use Rattle.kn_model.specs.Reports.{Cob, Gives};
+ghost use Rattle.netsym.specs.Texts.{reached_in};
+ghost use Rattle.netsym.specs.Runs.{Answers, IsTold, not_form_line};
+
+use crate::explore::explore;
+use crate::form::{FormFault, read_form};
+use crate::net::Net;
+use crate::report::Report;
+use crate::report::making::report_from;
+use crate::report::text::{reached_count, report_lines};
+use crate::status::Status;
+use std::alloc::{AllocError, Global};
+
+/// The report of a network: what copying it whole at every branch gives at its last tick.
+pub fn report_of_net(alloc: Global, net: &Net) -> Result<Report, AllocError>
+    requires { IsNet net.now }
+    ensures given { IfOk result (λ r. Gives r net.now) }
+    ensures mapping { IfOk result (λ r. r.mapping ≡ Cob) }
+{
+    let _ticks = net.ticks();
+    let scenarios = explore(alloc, net)?;
+    let report = report_from(alloc, net, &scenarios)?;
+    Ok(report)
+}
+
+/// A status, and the lines that go with it.
+#[derive(Debug, Drop)]
+pub struct Told {
+    pub status: Status,
+    pub lines: Vec<String>,
+}
+
+/// Found where a failure is reached, else Clean.
+fn status_of(report: &Report) -> Status
+    ensures { result ≡ (if nat_eq (reached_in report.now) 0 then Status.Clean else Status.Found) }
+{
+    if reached_count(&report.failures) == 0 {
+        Status::Clean
+    } else {
+        Status::Found
+    }
+}
+
+/// The answer for a file that is not of the form.
+fn refused(alloc: Global) -> Result<Told, AllocError>
+    ensures { IfOk result (λ t. (t.status ≡ Status.Refused) × (flat_map string_bytes t.lines.items ≡ not_form_line)) }
+{
+    let mut lines = Vec::new(alloc);
+    lines.push(String::from_str(alloc, "netsym: refused F0 -\n")?)?;
+    Ok(Told {
+        status: Status::Refused,
+        lines,
+    })
+}
+
+/// The answer on a network.
+fn reported(alloc: Global, net: &Net) -> Result<Told, AllocError>
+    requires { IsNet net.now }
+    ensures { IfOk result (λ t. IsTold net.now t.status (flat_map string_bytes t.lines.items)) }
+{
+    let report = report_of_net(alloc, net)?;
+    Ok(Told {
+        status: status_of(&report),
+        lines: report_lines(alloc, &report)?,
+    })
+}
+
+/// The status and the lines for the bytes of a network file.
+pub fn answer(alloc: Global, bytes: &[u8]) -> Result<Told, AllocError>
+    ensures { IfOk result (λ t. Answers bytes.now t.status (flat_map string_bytes t.lines.items)) }
+{
+    match read_form(alloc, bytes) {
+        Ok(net) => {
+            let told = reported(alloc, &net)?;
+            Ok(told)
+        }
+        Err(FormFault::NotForm) => {
+            let told = refused(alloc)?;
+            Ok(told)
+        }
+        Err(FormFault::Memory(error)) => Err(error),
+    }
+}

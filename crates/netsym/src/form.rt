@@ -1,0 +1,54 @@
+//! Reading a network file that names programs and nodes alone.
+
+ghost use Rattle.std.specs.Prelude.{IfOk, IsErrOf};
+ghost use Rattle.kn_model.specs.Nets.{Network};
+ghost use Rattle.netsym.specs.Form.{IsFile, OneNetwork};
+
+use crate::net::Net;
+use network::net_of;
+use std::alloc::{AllocError, Global};
+use text::read_text;
+use thiserror::Error;
+
+mod network;
+mod program;
+#[cfg(test)]
+mod tests;
+mod text;
+
+/// Why no network is read: the bytes are no file of the form, or memory ran out. `read_form` says what the form is.
+#[derive(Debug, Drop, Error)]
+pub enum FormFault {
+    #[error("the file is not of the form")]
+    NotForm,
+    #[error("out of memory")]
+    Memory(AllocError),
+}
+
+/// The network that a file describes. The lines of a file, each of which one line feed ends, are these, and no others:
+/// - `version = 1`
+/// - `ticks = 0` or `ticks = 1`
+/// - for each of 1 to 64 programs `[[program]]`, `name = ".."` and `code = ".."`
+/// - for each of 1 to 64 nodes `[[node]]` and `program = ".."`
+///
+/// A name is 1 to 32 letters, digits, `_` or `-`, and no two programs have one name. The code is bytecode in hexadecimal
+/// digits of either case: at most 512 instructions, boot as the only handler, and each branch to a higher index. A node's
+/// program is the name of one of the programs. At most 12 instructions decide, counted node by node.
+///
+/// - `NotForm`: the bytes are no such file.
+/// - `Memory`: want of memory.
+pub fn read_form(alloc: Global, bytes: &[u8]) -> Result<Net, FormFault>
+    ensures found { IfOk result (λ net. IsFile bytes.now net) }
+    ensures none { IsErrOf result FormFault.NotForm → (net : Network) → IsFile bytes.now net → ⊥ }
+{
+    let text = match read_text(alloc, bytes) {
+        Ok(text) => text,
+        Err(fault) => return Err(fault),
+    };
+    net_of(alloc, &text)
+}
+
+/// Bytes are a file of one network alone.
+pub fn one_network()
+    ensures { OneNetwork }
+{}

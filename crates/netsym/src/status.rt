@@ -1,0 +1,40 @@
+//! How a call of the program ends.
+
+ghost use Rattle.std.specs.Prelude.{◌≡◌};
+ghost use Rattle.netsym.specs.Statuses.{code_of};
+
+/// How a call of the program ends; the numbers are the process's exit status.
+#[derive(Clone, Copy, Debug, PartialEq, Eq)]
+pub enum Status {
+    /// 0: the report was printed, and no failure is reached.
+    Clean,
+    /// 1: the report was printed, and a failure is reached.
+    Found,
+    /// 2: the words are no command.
+    Usage,
+    /// 3: the file is too long, or not of the form.
+    Refused,
+    /// 4: the source failed.
+    ReadFault,
+    /// 5: the sink failed.
+    WriteFault,
+    /// 6: memory ran out.
+    Memory,
+}
+
+impl Status {
+    /// The exit status of the process, 0 to 6.
+    pub fn code(self) -> u8
+        ensures { result ≡ code_of self }
+    {
+        match self {
+            Status::Clean => 0,
+            Status::Found => 1,
+            Status::Usage => 2,
+            Status::Refused => 3,
+            Status::ReadFault => 4,
+            Status::WriteFault => 5,
+            Status::Memory => 6,
+        }
+    }
+}
