@@ -1,8 +1,8 @@
 -- The network that is explored: its programs, nodes, links and limits, as a file gives them.
 use Rattle.std.specs.Prelude.{ℕ, List, [], slice_index_or, filter, nat_eq}
 use Rattle.kn_code.specs.Code.{Code, no_code}
-pub use Rattle.kn_plan.specs.declared.net.Link.{Link}
-pub use Rattle.kn_plan.specs.declared.net.Limits.{Limits}
+use Rattle.kn_plan.specs.declared.net.Link.{Link as LinkFields}
+use Rattle.kn_plan.specs.declared.net.Limits.{Limits as LimitsFields}
 
 -- a node of the file: its program, how many packets it may lose and how many be given twice, and the ticks at which it may reboot
 pub record Plan : Type 0 where
@@ -10,6 +10,14 @@ pub record Plan : Type 0 where
   pub loss : ℕ
   pub duplicate : ℕ
   pub reboot : List ℕ
+
+-- a link from one node to another; a packet takes `delay` ticks, at least 1
+abbrev pub Link : Type 0
+Link = LinkFields
+
+-- the number of ticks, of instructions in one event, of valuations to try, of states and of dstates
+abbrev pub Limits : Type 0
+Limits = LimitsFields
 
 -- programs, nodes, links and limits; nodes name their programs by number
 pub record Network : Type 0 where

@@ -2,7 +2,7 @@
 use Rattle.std.specs.Prelude.{ℕ, ◌%◌, ◌^◌, ◌&&◌, nat_eq, if◌then◌else◌, List, [], ◌∷◌}
 use Rattle.kn_word.specs.declared.Op.{Op}
 use Rattle.kn_word.specs.Words.{val}
-pub use Rattle.kn_term.specs.declared.valuation.Given.{Given}
+use Rattle.kn_term.specs.declared.valuation.Given.{Given as GivenWord}
 
 -- A term is a word, an input by node, index and width, an operator on two terms, or a choice: x where c is not 0, else y.
 pub data Term : Type 0 where
@@ -10,6 +10,10 @@ pub data Term : Type 0 where
   Input : (node index width : ℕ) → Term
   Apply : (op : Op) → (x y : Term) → Term
   Choice : (c x y : Term) → Term
+
+-- the word of one input
+abbrev pub Given : Type 0
+Given = GivenWord
 
 -- words for some inputs; all others are 0
 abbrev pub Valuation : Type 0
