@@ -1,0 +1,9 @@
+-- Two queues are equal where their packets are.
+use Rattle.std.proofs.lemmas.Slice.Eq.{slice_eq-Decides}
+use Rattle.kn_packet.proofs.Equal.{packet_decides}
+use Rattle.kn_packet.proofs.queue.QueuePartialEq.eq.Goals as goal
+
+pub returns-clause-same : goal.returns-clause-same
+returns-clause-same c =
+    let d = slice_eq-Decides packet_decides _ _ _ c.eq.ensures in
+    rw (← c.self.view_is, ← c.other.view_is) (d.0, d.1)

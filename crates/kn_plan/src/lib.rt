@@ -1,0 +1,12 @@
+//! The network that is explored, as a file gives it.
+#![tactic(auto)]
+
+mod net;
+mod sharing;
+
+pub use net::{Limits, Link, Net, NodePlan};
+pub use sharing::shared;
+pub use std::alloc::AllocError as Memory;
+
+#[cfg(test)]
+mod tests;

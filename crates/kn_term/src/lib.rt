@@ -1,0 +1,16 @@
+//! Terms: formulas over the inputs of a network as lists of nodes, and valuations, which say what the inputs are.
+#![tactic(auto)]
+
+mod node;
+mod sharing;
+mod terms;
+mod valuation;
+
+pub use node::{Literal, Node, Ref};
+pub use sharing::shared;
+pub use std::alloc::AllocError as Memory;
+pub use terms::Terms;
+pub use valuation::{Valuation, one_list};
+
+#[cfg(test)]
+mod tests;
