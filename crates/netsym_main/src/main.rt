@@ -5,6 +5,7 @@ use kn_io::{StdSink, StdSource};
 use netsym::run_alone;
 use std::alloc::{AllocError, Global};
 use std::env;
+use std::io::{Error, ErrorKind};
 use std::process::ExitCode;
 
 /// The status where the system refuses the words, as where one is not UTF-8.
@@ -12,6 +13,15 @@ const NO_WORDS: u8 = 9;
 
 /// The status where there is no memory for the words.
 const NO_MEMORY: u8 = 6;
+
+/// The status where the words can't be had.
+fn status_without_words(error: &Error) -> u8 {
+    if error.kind() == ErrorKind::OutOfMemory {
+        NO_MEMORY
+    } else {
+        NO_WORDS
+    }
+}
 
 /// The words as texts that the top call takes.
 fn word_slices(alloc: Global, texts: &[String]) -> Result<Vec<&str>, AllocError> {
@@ -25,8 +35,9 @@ fn word_slices(alloc: Global, texts: &[String]) -> Result<Vec<&str>, AllocError>
 /// Calls the library with the words after the program's name, and ends with its status. It prints nothing by itself.
 fn main(rt: HostRuntime) -> ExitCode {
     let alloc = rt.alloc();
-    let Ok(args) = env::args(&rt) else {
-        return ExitCode::from(NO_WORDS);
+    let args = match env::args(&rt) {
+        Ok(args) => args,
+        Err(error) => return ExitCode::from(status_without_words(&error)),
     };
     let mut texts = Vec::new(alloc);
     for arg in args.skip(1) {
