@@ -195,17 +195,19 @@ AgainOutcomes = outcomes again ≡ ((Halted ∷ []) ∷ (Failed Assert 8 3 ∷ [
 abbrev pub here_with : ℕ → Here Term
 here_with count = record { node = 0; tick = 7; code = idle; links = replicate count (link 0 1 2); fuel = 512; mail = None }
 
--- a way at instruction 4 of a node that has made so many inputs and sent so many packets
+-- a state that has made so many inputs and sent so many packets, and else is as at the start
 abbrev pub counts_at : (inputs sent : ℕ) → State Term
 counts_at inputs sent = record (state_of terms 0 0 []) { inputs = inputs; sent = sent }
 
+-- a way without a decision that has come to this instruction
 abbrev pub way_at : ℕ → State Term → List (Packet Term) → Way Term
 way_at pc s sends = record { state = s; pc = pc; bits = []; literals = []; sends = sends }
 
--- it fails at this instruction, and nothing else changes
+-- it fails at place 4, and nothing else changes
 abbrev pub fails_with : (inputs sent : ℕ) → Effect Term
 fails_with inputs sent = Stops (way_at 4 (record (counts_at inputs sent) { outcome = Failed Fuel 4 7 }) [])
 
+-- what an instruction does at place 4 with so many links, inputs made and packets sent
 abbrev pub effect_with : (links inputs sent : ℕ) → Instr → Effect Term
 effect_with links inputs sent it = effect terms (here_with links) it (way_at 4 (counts_at inputs sent) [])
 
