@@ -3,7 +3,7 @@ use Rattle.std.proofs.Common.{◌≡◌, ℕ, zero, suc, ◌+◌, ◌<◌, Bool,
 use Rattle.std.specs.Prelude.{filter, nat_eq, Contains, ◌&&◌}
 use Rattle.std.specs.List.{AllByRecursion}
 use Rattle.std.proofs.lemmas.List.{length-set}
-use Rattle.kn_model.specs.Values.{Literal}
+use Rattle.kn_model.specs.Values.{Literal, Values}
 use Rattle.kn_model.specs.Terms.{Term, Valuation, terms}
 use Rattle.kn_model.specs.Histories.{Event, Boot, Reboot, Mail, Timer}
 use Rattle.kn_model.specs.Packets.{Packet, Parcel, put_in, put_all, parcel_le}
@@ -59,6 +59,13 @@ all-contains {A} P xs x h c = go xs h c.0 c.1 c.2
     go (y ∷ ys) p zero inside e = subst P e p.0
     go (y ∷ ys) p (suc k) inside e = go ys p.1 k (omega arith) e
 
+-- what an event does first leaves the own condition
+pub begun_own : {V : Type 0} (k : Values V) (t : ℕ) (e : Event) (s : State V) → (begun k t e s).own ≡ s.own
+begun_own k t Boot s = refl
+begun_own k t Reboot s = refl
+begun_own k t (Mail from seq copy) s = refl
+begun_own k t (Timer number) s = refl
+
 module _ (a : Valuation) where
   abbrev pub Holds : Condition → Type 0
   Holds c = holds a c ≡ true
@@ -92,7 +99,7 @@ module _ (a : Valuation) where
   }
 
   -- a decision adds a literal
-  longer_implies : (c d : Condition) → Holds (c ++ d) → Holds c
+  pub longer_implies : (c d : Condition) → Holds (c ++ d) → Holds c
   longer_implies c d h = let x = parts_hold c d h in x.0
 
   implied_decided : (own : Condition) (b : Bool) (l : Literal Term) (w : Way Term) → IsImplied own w → (w.state.own ≡ own) × Guards (own ++ (w.literals ++ l ∷ [])) w.sends
@@ -102,12 +109,6 @@ module _ (a : Valuation) where
         (λ q f i. f (longer_implies (own ++ w.literals) (l ∷ []) (subst Holds (sym (append_assoc own w.literals (l ∷ []))) i))) w.sends h.1,
   )
 
-  begun_own : (t : ℕ) (e : Event) (s : State Term) → (begun terms t e s).own ≡ s.own
-  begun_own t Boot s = refl
-  begun_own t Reboot s = refl
-  begun_own t (Mail from seq copy) s = refl
-  begun_own t (Timer number) s = refl
-
   -- a path's own condition is the one before with the path's literals, and it implies the guards of what was sent
   abbrev pub PathImplied : Condition → Path Term → Type 0
   PathImplied own p = (p.state.own ≡ own ++ p.literals) × Guards (own ++ p.literals) p.sends
@@ -116,7 +117,7 @@ module _ (a : Valuation) where
   paths_implied net n t e s good =
       let here = here_at terms net n t e s in
       all-map (IsImplied s.own) (PathImplied s.own) (path_of terms) (λ w h. (ap (λ (c : Condition). c ++ w.literals) h.0, h.1)) (event_ways terms here e (first_way terms (begun terms t e s)))
-      (all_event_ways terms here (IsImplied s.own) (implied_kept here s.own) (is_here net n t e s good) (implied_decided s.own) e (first_way terms (begun terms t e s)) (begun_own t e s, tt))
+      (all_event_ways terms here (IsImplied s.own) (implied_kept here s.own) (is_here net n t e s good) (implied_decided s.own) e (first_way terms (begun terms t e s)) (begun_own terms t e s, tt))
 
   -- a node's own condition and the guards of what is fresh hold
   abbrev GuardHolds : Parcel Term → Type 0

@@ -24,3 +24,4 @@ pub mod WorkedTree
 pub mod WorkedReport
 pub mod WorkedChain
 pub mod WorkedOneTick
+pub mod WorkedPackets
