@@ -57,3 +57,7 @@ right_by words left left' bytes statuses.Usage text command reads h = absurd h
 right_by words left left' bytes statuses.ReadFault text command reads h = absurd h
 right_by words left left' bytes statuses.WriteFault text command reads h = absurd h
 right_by words left left' bytes statuses.Memory text command reads h = absurd h
+
+-- an answer on a file is no read fault
+pub answer_is_no_fault : {P : Type 0} (bytes : List ℕ) (status : Status) (text : List ℕ) → status ≡ statuses.ReadFault → Answers bytes status text → P
+answer_is_no_fault bytes status text is h = absurd (subst (λ (s : Status). Answers bytes s text) is h)

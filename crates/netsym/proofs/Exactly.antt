@@ -19,13 +19,13 @@ too_many : (left' : Option (List ℕ)) (bytes taken : List ℕ) → Consumes (So
 too_many None bytes taken c = absurd c
 too_many (Some rest) bytes taken c = let same : length bytes ≡ length taken + length rest = ap length c ∙ length-append taken rest in omega (arith, same)
 
-status_is : (P : Status → Type 0) (words : List (List ℕ)) (left left' taken taken' : Option (List ℕ)) (status : Status) → (run : Runs words left left' taken taken' status) → P run.verdict → P statuses.WriteFault → P status
-status_is P words left left' taken taken' status run right fault = elim run.written [ inl h ↦ subst P (sym h.0) right | inr h ↦ subst P (sym h.0) fault ]
+status_is : (P : Status → Type 0) (words : List (List ℕ)) (left left' : Option (List ℕ)) (faults faults' : ℕ) (taken taken' : Option (List ℕ)) (status : Status) → (run : Runs words left left' faults faults' taken taken' status) → P run.verdict → P statuses.WriteFault → P status
+status_is P words left left' faults faults' taken taken' status run right fault = elim run.written [ inl h ↦ subst P (sym h.0) right | inr h ↦ subst P (sym h.0) fault ]
 
-pub usage_exactly : (words : List (List ℕ)) (left left' taken taken' : Option (List ℕ)) (status : Status) → Runs words left left' taken taken' status → IsUsage words status
-usage_exactly words left left' taken taken' status run = record {
+pub usage_exactly : (words : List (List ℕ)) (left left' : Option (List ℕ)) (faults faults' : ℕ) (taken taken' : Option (List ℕ)) (status : Status) → Runs words left left' faults faults' taken taken' status → IsUsage words status
+usage_exactly words left left' faults faults' taken taken' status run = record {
   only = λ is. elim run.written [ inl h ↦ (subst (λ (v : Status). IsRight words left left' v run.text) (sym h.0 ∙ is) run.right).0 | inr h ↦ absurd (let wrong : statuses.WriteFault ≡ statuses.Usage = sym h.0 ∙ is in cc) ];
-  always = λ none. status_is (λ s. EndsAs s statuses.Usage) words left left' taken taken' status run (only_usage run.verdict run.text none run.right) (inr refl);
+  always = λ none. status_is (λ s. EndsAs s statuses.Usage) words left left' faults faults' taken taken' status run (only_usage run.verdict run.text none run.right) (inr refl);
 }
   where
     only_usage : (v : Status) (text : List ℕ) → (IsCommand words → ⊥) → IsRight words left left' v text → EndsAs v statuses.Usage
@@ -37,7 +37,7 @@ usage_exactly words left left' taken taken' status run = record {
     only_usage statuses.WriteFault text none r = absurd r
     only_usage statuses.Memory text none r = absurd (none r.0)
 
-module _ (words : List (List ℕ)) (left left' taken taken' : Option (List ℕ)) (status : Status) (run : Runs words left left' taken taken' status) (bytes : List ℕ) (holds : left ≡ Some bytes) (command : IsCommand words) where
+module _ (words : List (List ℕ)) (left left' : Option (List ℕ)) (faults faults' : ℕ) (taken taken' : Option (List ℕ)) (status : Status) (run : Runs words left left' faults faults' taken taken' status) (bytes : List ℕ) (holds : left ≡ Some bytes) (command : IsCommand words) where
   described_by : (read : List ℕ) → Reads left left' read → (net : Network) → IsFile read net → IsDescribed bytes
   described_by read reads net form =
       let same = read_is left' bytes read (subst (λ (l : Option (List ℕ)). Consumes l left' read) holds reads.all) reads.end in
@@ -95,6 +95,6 @@ module _ (words : List (List ℕ)) (left left' taken taken' : Option (List ℕ))
       | inl h ↦ verdict_printed run.verdict run.text run.right (subst IsPrinted h.0 p)
       | inr h ↦ absurd (subst IsPrinted h.0 p)
     ];
-    refuses = λ none. status_is (λ s. (s ≡ statuses.Refused) ⊎ IsHindered s) words left left' taken taken' status run (verdict_refuses run.verdict run.text run.right none) (inr tt);
-    prints = λ d. status_is (λ s. IsPrinted s ⊎ IsHindered s) words left left' taken taken' status run (verdict_prints run.verdict run.text run.right d) (inr tt);
+    refuses = λ none. status_is (λ s. (s ≡ statuses.Refused) ⊎ IsHindered s) words left left' faults faults' taken taken' status run (verdict_refuses run.verdict run.text run.right none) (inr tt);
+    prints = λ d. status_is (λ s. IsPrinted s ⊎ IsHindered s) words left left' faults faults' taken taken' status run (verdict_prints run.verdict run.text run.right d) (inr tt);
   }

@@ -3,6 +3,7 @@ use Rattle.std.specs.Prelude.{◌≡◌, ◌⊎◌, ◌≤◌, ℕ, ◌+◌, Lis
 use Rattle.std.specs.declared.option.Option.{Option}
 use Rattle.std.specs.Io.KnownBytes.{Appends, Consumes, Keeps, IsAtEnd}
 use denote.Ref.{Bor}
+use Rattle.kn_io.specs.Causes.{Rose}
 use Rattle.kn_io.specs.Reading.{TakesExactly, TakesAtMost}
 use Rattle.kn_io.specs.Writing.{TakesFront}
 use Rattle.kn_model.specs.Nets.{Network}
@@ -86,9 +87,11 @@ IsRight words left left' statuses.Memory text = IsCommand words × TakesAtMost (
 abbrev pub IsWritten : Option (List ℕ) → Option (List ℕ) → List ℕ → Status → Status → Type 0
 IsWritten taken taken' text verdict status = ((status ≡ verdict) × Appends taken taken' text) ⊎ ((status ≡ statuses.WriteFault) × ((rest : List ℕ) × TakesFront taken taken' text rest))
 
--- A call of the program: the status and the text that are right, and how the text went out.
-pub record Runs (words : List (List ℕ)) (left left' taken taken' : Option (List ℕ)) (status : Status) : Type 0 where
+-- A call of the program: the status and the text that are right, and how the text went out. The text of a read fault goes
+-- out only where the source's count of faults rose.
+pub record Runs (words : List (List ℕ)) (left left' : Option (List ℕ)) (faults faults' : ℕ) (taken taken' : Option (List ℕ)) (status : Status) : Type 0 where
   pub verdict : Status
   pub text : List ℕ
   pub right : IsRight words left left' verdict text
+  pub cause : verdict ≡ statuses.ReadFault → Rose faults faults'
   pub written : IsWritten taken taken' text verdict status

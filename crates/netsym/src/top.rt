@@ -38,9 +38,10 @@ fn run_once<S: Source, K: Sink>(
     source: &mut S,
     sink: &mut K,
 ) -> Status
-    ensures runs { Runs (words_of words.now) (S.left source.old) (S.left source.new) (K.taken sink.old) (K.taken sink.new) result }
+    ensures runs { Runs (words_of words.now) (S.left source.old) (S.left source.new) (S.faults source.old) (S.faults source.new) (K.taken sink.old) (K.taken sink.new) result }
     ensures reads { S.faults source.old ≤ S.faults source.new }
     ensures writes { K.faults sink.old ≤ K.faults sink.new }
+    ensures unread { (IsCommand (words_of words.now) → ⊥) → source.new ≡ source.old }
     ensures read_fault { result ≡ Status.ReadFault → Rose (S.faults source.old) (S.faults source.new) }
     ensures write_fault { result ≡ Status.WriteFault → Rose (K.faults sink.old) (K.faults sink.new) }
 {
@@ -78,7 +79,10 @@ pub fn run_alone<S: Source, K: Sink>(
     sink: &mut K,
 ) -> Status
     // Which status comes, with which text, and how the text went out.
-    ensures runs { Runs (words_of words.now) (S.left source.old) (S.left source.new) (K.taken sink.old) (K.taken sink.new) result }
+    ensures runs { Runs (words_of words.now) (S.left source.old) (S.left source.new) (S.faults source.old) (S.faults source.new) (K.taken sink.old) (K.taken sink.new) result }
+
+    // Where the words are not the command, nothing is asked of the source.
+    ensures unread { (IsCommand (words_of words.now) → ⊥) → source.new ≡ source.old }
 
     // A fault is answered only where the count of faults rose in this call.
     ensures reads { S.faults source.old ≤ S.faults source.new }

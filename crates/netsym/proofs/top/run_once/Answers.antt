@@ -3,7 +3,7 @@ use Rattle.std.specs.Prelude.{string_bytes}
 use Rattle.std.specs.List.{flat_map}
 use Rattle.netsym.specs.declared.status.Status.TheVariants as statuses
 use Rattle.netsym.specs.Runs.{usage_line, too_long_line, read_fault_line, memory_line}
-use Rattle.netsym.proofs.Ends.{written_by, keeps_same, not_command, is_command, taken_whole, right_by}
+use Rattle.netsym.proofs.Ends.{written_by, keeps_same, not_command, is_command, taken_whole, right_by, answer_is_no_fault}
 use Rattle.netsym.proofs.top.run_once.Goals as goal
 
 pub returns-then-not-words_ok-clause-runs : goal.returns-then-not-words_ok-clause-runs
@@ -11,6 +11,7 @@ returns-then-not-words_ok-clause-runs g c = record {
   verdict = statuses.Usage;
   text = usage_line;
   right = (not_command c.words_ok.result c.words_ok.ensures c.if-not-words_ok.true, keeps_same _, refl);
+  cause = λ is. absurd cc;
   written = written_by _ _ _ statuses.Usage c.ended.result c.write_all.result c.ended.ensures c.write_all.ensures.all c.write_all.ensures.front;
 }
 
@@ -19,6 +20,7 @@ returns-in-Err-Failed-clause-runs g c = record {
   verdict = statuses.ReadFault;
   text = read_fault_line;
   right = (is_command c.words_ok.result c.words_ok.ensures c.if-not-words_ok.false, (rw c.in-Err-Failed.field-0-is at c.in-Err-Failed.ensures.taken), refl);
+  cause = λ is. (rw c.in-Err-Failed.field-0-is at c.in-Err-Failed.ensures.failed) refl;
   written = written_by _ _ _ statuses.ReadFault c.ended-in-Err-Failed.result c.write_all-in-Err-Failed.result c.ended-in-Err-Failed.ensures c.write_all-in-Err-Failed.ensures.all c.write_all-in-Err-Failed.ensures.front;
 }
 
@@ -27,6 +29,7 @@ returns-in-Err-TooLong-clause-runs g c = record {
   verdict = statuses.Refused;
   text = too_long_line;
   right = (is_command c.words_ok.result c.words_ok.ensures c.if-not-words_ok.false, inl (rw c.in-Err-TooLong.field-0-is at c.in-Err-TooLong.ensures.taken, refl));
+  cause = λ is. absurd cc;
   written = written_by _ _ _ statuses.Refused c.ended-in-Err-TooLong.result c.write_all-in-Err-TooLong.result c.ended-in-Err-TooLong.ensures c.write_all-in-Err-TooLong.ensures.all c.write_all-in-Err-TooLong.ensures.front;
 }
 
@@ -35,6 +38,7 @@ returns-in-Err-Memory-clause-runs g c = record {
   verdict = statuses.Memory;
   text = memory_line;
   right = (is_command c.words_ok.result c.words_ok.ensures c.if-not-words_ok.false, (rw c.in-Err-Memory.field-0-is at c.in-Err-Memory.ensures.taken), refl);
+  cause = λ is. absurd cc;
   written = written_by _ _ _ statuses.Memory c.ended-in-Err-Memory.result c.write_all-in-Err-Memory.result c.ended-in-Err-Memory.ensures c.write_all-in-Err-Memory.ensures.all c.write_all-in-Err-Memory.ensures.front;
 }
 
@@ -45,6 +49,7 @@ returns-in-Ok-answer-clause-runs g c = record {
   right = right_by _ _ _ c.in-Ok.bytes.items c.in-Ok-answer.told.status _ (is_command c.words_ok.result c.words_ok.ensures c.if-not-words_ok.false)
       (record { all = c.in-Ok.ensures.all; end = c.in-Ok.ensures.end; fits = c.in-Ok.ensures.fits })
       (rw c.deref.ensures.value at c.in-Ok-answer.ensures);
+  cause = λ is. answer_is_no_fault _ _ _ is (rw c.deref.ensures.value at c.in-Ok-answer.ensures);
   written = written_by _ _ _ c.in-Ok-answer.told.status c.ended-in-Ok-answer.result c.write_lines.result c.ended-in-Ok-answer.ensures
       (rw c.deref-in-Ok-answer.ensures.value at c.write_lines.ensures.all) (rw c.deref-in-Ok-answer.ensures.value at c.write_lines.ensures.front);
 }
@@ -54,5 +59,6 @@ returns-clause-runs g c = record {
   verdict = statuses.Memory;
   text = memory_line;
   right = (is_command c.words_ok.result c.words_ok.ensures c.if-not-words_ok.false, taken_whole _ _ c.in-Ok.bytes.items (record { all = c.in-Ok.ensures.all; end = c.in-Ok.ensures.end; fits = c.in-Ok.ensures.fits }), refl);
+  cause = λ is. absurd cc;
   written = written_by _ _ _ statuses.Memory c.ended-in-Err.result c.write_all-in-Err.result c.ended-in-Err.ensures c.write_all-in-Err.ensures.all c.write_all-in-Err.ensures.front;
 }
