@@ -1,9 +1,7 @@
-use Rattle.std.proofs.Common.{◌≡◌, ◌≤◌, ◌<◌, ℕ, map, length, arith, refl}
-use Rattle.std.specs.Prelude.{All}
+use Rattle.std.proofs.Common.{◌≡◌, map, length, arith, refl}
 use Rattle.kn_model.specs.Nets.{Network}
 use Rattle.netsym.specs.Form.{names_of, IsPlaceOf, Describes}
 use Rattle.netsym.specs.FormViews.{program_text, text_bytes, file_text}
-use Rattle.std.proofs.lemmas.List.{length-map}
 use Rattle.std.proofs.lemmas.Result.{err_from_is_err_and}
 use Rattle.netsym.proofs.FormNetworks.{refused_too, each_length, seen_programs, seen_places, no_places, places_inside, none_described}
 use Rattle.netsym.proofs.form.network.net_of.Goals as goal
