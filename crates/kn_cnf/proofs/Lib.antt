@@ -1,0 +1,2 @@
+-- The lemmas on clauses.
+pub mod Equal

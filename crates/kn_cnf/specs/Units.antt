@@ -1,0 +1,33 @@
+-- Clauses under an assignment, which is a list of literals that are assigned true, the latest first.
+use Rattle.std.specs.Prelude.{◌≡◌, ◌==◌, ℕ, Bool, true, false, not, if◌then◌else◌, ◌⊎◌, List, [], ◌∷◌, Some, None}
+use Rattle.std.specs.declared.option.Option.{Option}
+use Rattle.std.specs.Option.{option_map}
+use Rattle.kn_cnf.specs.declared.clauses.Lit.{Lit}
+
+-- the literal's negation
+abbrev pub negated : Lit → Lit
+negated l = record l { neg = not l.neg }
+
+-- the value that is assigned to a variable, if there is one
+abbrev pub valued : List Lit → ℕ → Option Bool
+valued [] q = None
+valued (l ∷ ls) q = if l.var == q then Some (not l.neg) else valued ls q
+
+-- the value of a literal, if its variable is assigned
+abbrev pub lit_value : List Lit → Lit → Option Bool
+lit_value ls l = option_map (λ b. if l.neg then not b else b) (valued ls l.var)
+
+-- the literal is one of the clause's
+abbrev pub Has : List Lit → Lit → Type 0
+Has [] l = ⊥
+Has (m ∷ ms) l = (m ≡ l) ⊎ Has ms l
+
+-- each literal of the clause is assigned false
+abbrev pub IsFalse : List Lit → List Lit → Type 0
+IsFalse ls c = (m : Lit) → Has c m → lit_value ls m ≡ Some false
+
+-- the clause is unit: this literal of it is open, and each other one is assigned false
+pub record IsUnit (ls : List Lit) (c : List Lit) (l : Lit) : Type 0 where
+  pub has : Has c l
+  pub opens : lit_value ls l ≡ None
+  pub others : (m : Lit) → Has c m → (m ≡ l → ⊥) → lit_value ls m ≡ Some false

@@ -1,0 +1,12 @@
+//! Clauses over variables, logs of refutations, and the clauses of a circuit.
+#![tactic(auto)]
+
+mod clauses;
+mod logs;
+
+pub use clauses::{Clause, Cnf, Lit};
+pub use logs::{Line, Log};
+pub use std::alloc::AllocError as Memory;
+
+#[cfg(test)]
+mod tests;
