@@ -1,0 +1,3 @@
+-- The definitions of good lines.
+pub mod Good
+pub mod Standings
