@@ -1,3 +1,4 @@
 -- The definitions of good lines.
 pub mod Good
 pub mod Standings
+pub mod Text
