@@ -1,5 +1,5 @@
 -- What is assigned after the literals of a clause are assigned false.
-use Rattle.std.proofs.Common.{◌≡◌, ℕ, zero, suc, ◌+◌, ◌<◌, Bool, true, false, not, cond, eqb, List, [], ◌∷◌, ◌++◌, length, take, drop, get_or, refl, ap, sym, subst, ◌∙◌, inl, inr, arith}
+use Rattle.std.proofs.Common.{◌≡◌, ℕ, Bool, true, false, not, cond, eqb, List, [], ◌∷◌, ◌++◌, take, drop, refl, ap, sym, subst, ◌∙◌, inl, inr}
 use Rattle.std.specs.Prelude.{Some, None, ◌⊎◌, if◌then◌else◌}
 use Rattle.std.specs.declared.option.Option.{Option}
 use Rattle.std.specs.Option.{option_map}
@@ -8,8 +8,8 @@ use Rattle.std.proofs.lemmas.List.{take-append-drop}
 use Rattle.kn_cnf.specs.declared.clauses.Lit.{Lit}
 use Rattle.kn_cnf.specs.Units.{negated, valued, lit_value, Has}
 use Rattle.kn_unsat.specs.Good.{falsified, HasBoth}
-use Rattle.kn_unsat.proofs.Steps.{has_more, has_front, has_last, open_true, open_false}
-use Rattle.kn_unsat.proofs.Sound.{valued_has, valued_so}
+use Rattle.kn_unsat.proofs.Steps.{has_more, has_front, has_last}
+use Rattle.kn_unsat.proofs.Sound.{valued_has}
 
 abbrev literal : ℕ → Bool → Lit
 literal q n = record { var = q; neg = n }
@@ -34,19 +34,19 @@ falsified_more ls (x ∷ xs) y = falsified_more (negated x ∷ ls) xs y
 falsified_has : (ls xs : List Lit) (m : Lit) → Has (falsified ls xs) m → Has ls m ⊎ Has xs (negated m)
 falsified_has ls [] m h = inl h
 falsified_has ls (x ∷ xs) m h = elim (falsified_has (negated x ∷ ls) xs m h) [
-    | inl g ↦ elim g [ inl e ↦ inr (inl (sym (twice x) ∙ ap (λ (k : Lit). negated k) e)) | inr k ↦ inl k ]
-    | inr k ↦ inr (inr k)
-  ]
+  | inl g ↦ elim g [ inl e ↦ inr (inl (sym (twice x) ∙ ap (λ (k : Lit). negated k) e)) | inr k ↦ inl k ]
+  | inr k ↦ inr (inr k)
+]
 
 has_falsified : (ls xs : List Lit) (m : Lit) → Has ls m ⊎ Has xs m → Has (falsified ls xs) m ⊎ Has (falsified ls xs) (negated m)
 has_falsified ls [] m h = elim h [ inl g ↦ inl g | inr g ↦ absurd g ]
 has_falsified ls (x ∷ xs) m h = elim h [
-    | inl g ↦ has_falsified (negated x ∷ ls) xs m (inl (inr g))
-    | inr g ↦ elim g [
-      | inl e ↦ turned (has_falsified (negated x ∷ ls) xs (negated m) (inl (inl (ap (λ (k : Lit). negated k) e))))
-      | inr k ↦ has_falsified (negated x ∷ ls) xs m (inr k)
-    ]
+  | inl g ↦ has_falsified (negated x ∷ ls) xs m (inl (inr g))
+  | inr g ↦ elim g [
+    | inl e ↦ turned (has_falsified (negated x ∷ ls) xs (negated m) (inl (inl (ap (λ (k : Lit). negated k) e))))
+    | inr k ↦ has_falsified (negated x ∷ ls) xs m (inr k)
   ]
+]
   where
     turned : Has (falsified (negated x ∷ ls) xs) (negated m) ⊎ Has (falsified (negated x ∷ ls) xs) (negated (negated m)) → Has (falsified (negated x ∷ ls) xs) m ⊎ Has (falsified (negated x ∷ ls) xs) (negated m)
     turned h = elim h [ inl g ↦ inr g | inr g ↦ inl (subst (Has (falsified (negated x ∷ ls) xs)) (twice m) g) ]
@@ -60,6 +60,7 @@ value_has ls y b e = go (valued ls y.var) refl e
     is true false e = let same : true ≡ b = cc in rw (← same) refl
     is false true e = let same : true ≡ b = cc in rw (← same) refl
     is false false e = let same : false ≡ b = cc in rw (← same) refl
+
     go : (o : Option Bool) → valued ls y.var ≡ o → option_map (λ b. if y.neg then not b else b) (valued ls y.var) ≡ Some b → Has ls (literal y.var (if b then y.neg else not y.neg))
     go None at h = absurd (let wrong : None ≡ Some b = sym (ap (option_map (λ b. if y.neg then not b else b)) at) ∙ h in cc)
     go (Some a) at h =
@@ -96,16 +97,16 @@ value_of_turned xs y apart h = go (lit_value (falsified [] xs) y) refl
     go : (o : Option Bool) → lit_value (falsified [] xs) y ≡ o → lit_value (falsified [] xs) y ≡ Some true
     go (Some true) e = e
     go (Some false) e = absurd (elim (falsified_has [] xs (negated y) (value_has (falsified [] xs) y false e)) [
-        | inl g ↦ g
-        | inr g ↦ apart (y, subst (Has xs) (twice y) g, h)
-      ])
+      | inl g ↦ g
+      | inr g ↦ apart (y, subst (Has xs) (twice y) g, h)
+    ])
     go None e = absurd (elim (has_falsified [] xs (negated y) (inr h)) [
-        | inl g ↦ elim (falsified_has [] xs (negated y) g) [
-          | inl k ↦ k
-          | inr k ↦ apart (y, subst (Has xs) (twice y) k, h)
-        ]
-        | inr g ↦ has_value (falsified [] xs) y (subst (Has (falsified [] xs)) (twice y) g) e
-      ])
+      | inl g ↦ elim (falsified_has [] xs (negated y) g) [
+        | inl k ↦ k
+        | inr k ↦ apart (y, subst (Has xs) (twice y) k, h)
+      ]
+      | inr g ↦ has_value (falsified [] xs) y (subst (Has (falsified [] xs)) (twice y) g) e
+    ])
 
 pub none_here : (xs : List Lit) (y : Lit) → (HasBoth xs → ⊥) → (lit_value (falsified [] xs) y ≡ Some true → ⊥) → HasBoth (xs ++ y ∷ []) → ⊥
 none_here xs y apart opens both =

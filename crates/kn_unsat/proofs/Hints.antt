@@ -1,8 +1,7 @@
 -- What is left to refute at a hint.
-use Rattle.std.proofs.Common.{◌≡◌, ℕ, zero, suc, ◌+◌, ◌<◌, ◌≤◌, Bool, true, false, eqb, List, [], ◌∷◌, ◌++◌, length, take, drop, get_or, map, refl, ap, sym, subst, ◌∙◌, arith, append_assoc, append-nil}
+use Rattle.std.proofs.Common.{◌≡◌, ℕ, ◌+◌, ◌<◌, ◌≤◌, Bool, false, eqb, List, [], ◌∷◌, ◌++◌, length, take, drop, get_or, map, ap, sym, subst, ◌∙◌, arith, append_assoc}
 use Rattle.std.specs.Prelude.{Some, None, slice_get, IsTrue, IfOk, Ok, Err}
 use Rattle.std.specs.declared.result.Result.{Result}
-use Rattle.std.proofs.Math.Seq.{drop-cons}
 use Rattle.std.proofs.lemmas.Bool.{eqb-true, eq-eqb}
 use Rattle.std.proofs.lemmas.List.{drop_more, drop_all, take_more, map-append, length-drop}
 use Rattle.std.specs.Prelude.{Vec}
@@ -34,9 +33,10 @@ module _ (cs : List (List Lit)) (ls now : List Lit) (hints : List ℕ) (place : 
 
   pub follow_false : (c : List Lit) → slice_get cs (get_or hints place 0) ≡ Some c → IsFalse now c → Both (IsTrue (eqb (place + 1) (length hints))) (Refutes cs ls hints)
   follow_false c at f =
-      let last = refutes_false cs now c (get_or hints place 0) (drop (place + 1) hints) at f in
-      (λ h. at_hint.1 (last.0 (drop_all (place + 1) hints (omega (arith, eqb-true (place + 1) (length hints) h)))),
-      λ r. eq-eqb (place + 1) (length hints) (let none : length (drop (place + 1) hints) ≡ 0 = ap length (last.1 (at_hint.0 r)) in omega (arith, none, length-drop (place + 1) hints)))
+      let last = refutes_false cs now c (get_or hints place 0) (drop (place + 1) hints) at f in (
+        λ h. at_hint.1 (last.0 (drop_all (place + 1) hints (omega (arith, eqb-true (place + 1) (length hints) h)))),
+        λ r. eq-eqb (place + 1) (length hints) (let none : length (drop (place + 1) hints) ≡ 0 = ap length (last.1 (at_hint.0 r)) in omega (arith, none, length-drop (place + 1) hints)),
+      )
 
   pub follow_unit : (c : List Lit) (l : Lit) → slice_get cs (get_or hints place 0) ≡ Some c → IsUnit now c l → Both (Refutes cs ls hints) (Refutes cs (l ∷ now) (drop (place + 1) hints))
   follow_unit c l at u =
@@ -55,9 +55,10 @@ if_ok (Err e) P Q f p = tt
 
 -- a line is good exactly where its hints refute, if its clause is apart
 pub good_by : (cs : List (List Lit)) (s : Step) (ls : List Lit) (b : Bool) → (HasBoth s.clause → ⊥) → ls ≡ falsified [] s.clause → Both (IsTrue b) (Refutes cs ls s.hints) → Both (IsTrue b) (IsGood cs s)
-good_by cs s ls b apart is both =
-    (λ t. record { apart = apart; refuted = subst (λ (m : List Lit). Refutes cs m s.hints) is (both.0 t) },
-    λ g. both.1 (subst (λ (m : List Lit). Refutes cs m s.hints) (sym is) g.refuted))
+good_by cs s ls b apart is both = (
+  λ t. record { apart = apart; refuted = subst (λ (m : List Lit). Refutes cs m s.hints) is (both.0 t) },
+  λ g. both.1 (subst (λ (m : List Lit). Refutes cs m s.hints) (sym is) g.refuted),
+)
 
 -- the clauses before the next line
 before_more : (clauses : List (Vec Lit Global)) (lines : List Step) (place : ℕ) (d : Step) → place < length lines → before clauses (take (place + 1) lines) ≡ before clauses (take place lines) ++ (get_or lines place d).clause ∷ []
@@ -72,6 +73,7 @@ pub lines_more : (clauses : List (Vec Lit Global)) (lines : List Step) (place : 
 lines_more clauses lines place d inside =
     let first = before clauses (take place lines) in
     let next = before_more clauses lines place d inside in
-    let split = drop_more lines place d inside in
-    (λ g. let parts = subst (AreGood first) split g in (parts.0, subst (λ (cs : List (List Lit)). AreGood cs (drop (place + 1) lines)) (sym next) parts.1),
-    λ p. subst (AreGood first) (sym split) (p.0, subst (λ (cs : List (List Lit)). AreGood cs (drop (place + 1) lines)) next p.1))
+    let split = drop_more lines place d inside in (
+      λ g. let parts = subst (AreGood first) split g in (parts.0, subst (λ (cs : List (List Lit)). AreGood cs (drop (place + 1) lines)) (sym next) parts.1),
+      λ p. subst (AreGood first) (sym split) (p.0, subst (λ (cs : List (List Lit)). AreGood cs (drop (place + 1) lines)) next p.1),
+    )

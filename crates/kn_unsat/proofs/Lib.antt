@@ -4,3 +4,5 @@ pub mod Refuting
 pub mod Sound
 pub mod Falsified
 pub mod Hints
+pub mod Spelled
+pub mod Lines

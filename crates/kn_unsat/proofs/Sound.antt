@@ -1,14 +1,14 @@
 -- A log that checks leaves no values that meet the clauses.
-use Rattle.std.proofs.Common.{◌≡◌, ℕ, zero, suc, Bool, true, false, not, ◌||◌, ◌&&◌, eqb, List, [], ◌∷◌, ◌++◌, length, refl, ap, sym, subst, ◌∙◌, inl, inr, arith}
-use Rattle.std.specs.Prelude.{Some, None, ◌⊎◌, slice_get, if◌then◌else◌}
+use Rattle.std.proofs.Common.{◌≡◌, ℕ, zero, suc, Bool, true, false, not, ◌||◌, ◌&&◌, eqb, List, [], ◌∷◌, ◌++◌, refl, ap, sym, subst, ◌∙◌, inl, inr}
+use Rattle.std.specs.Prelude.{Some, None, slice_get, if◌then◌else◌}
 use Rattle.std.specs.declared.option.Option.{Option}
 use Rattle.std.specs.Option.{option_map}
 use Rattle.std.proofs.lemmas.Bool.{cases_Bool, eqb-true}
 use Rattle.kn_cnf.specs.declared.clauses.Lit.{Lit}
 use Rattle.kn_cnf.specs.Formulas.{Step}
 use Rattle.kn_cnf.specs.Truth.{lit_true, clause_true, all_true, Meets, AreNeverMet}
-use Rattle.kn_cnf.specs.Units.{negated, valued, lit_value, Has, IsFalse, IsUnit}
-use Rattle.kn_unsat.specs.Good.{falsified, Refutes, IsGood, AreGood, EndsEmpty, Checks}
+use Rattle.kn_cnf.specs.Units.{negated, valued, lit_value, Has}
+use Rattle.kn_unsat.specs.Good.{falsified, Refutes, IsGood, AreGood, Checks}
 use Rattle.kn_unsat.proofs.Steps.{same_or_not, open_false}
 
 -- each of these literals is true
@@ -54,6 +54,7 @@ false_under v ls m all e = go (valued ls m.var) refl e
     from_variable true false h k = absurd cc
     from_variable false true h k = absurd cc
     from_variable false false h k = h
+
     variable : (b : Bool) → lit_true v (valued_so m.var b) ≡ true → v m.var ≡ b
     variable true h = h
     variable false h = flipped (v m.var) h
@@ -61,6 +62,7 @@ false_under v ls m all e = go (valued ls m.var) refl e
         flipped : (b : Bool) → not b ≡ true → b ≡ false
         flipped false h = refl
         flipped true h = absurd cc
+
     go : (o : Option Bool) → valued ls m.var ≡ o → lit_value ls m ≡ Some false → lit_true v m ≡ false
     go None is h = absurd (open_false (lit_value ls m) (ap (option_map (λ b. if m.neg then not b else b)) is) h)
     go (Some b) is h = from_variable m.neg b (variable b (all (valued_so m.var b) (valued_has ls m.var b is))) (sym (ap (option_map (λ b. if m.neg then not b else b)) is) ∙ h)
@@ -83,6 +85,7 @@ met_at v (d ∷ ds) h c meets at = go (λ k m e. met_at v ds k c m e) h at (both
     both true true e = (refl, refl)
     both true false e = (refl, cc)
     both false b e = absurd cc
+
     go : ((k : ℕ) → all_true v ds ≡ true → slice_get ds k ≡ Some c → clause_true v c ≡ true) → (h : ℕ) → slice_get (d ∷ ds) h ≡ Some c → (clause_true v d ≡ true) × (all_true v ds ≡ true) → clause_true v c ≡ true
     go later zero at m = let same : d ≡ c = cc in sym (ap (clause_true v) same) ∙ m.0
     go later (suc k) at m = later k m.1 at

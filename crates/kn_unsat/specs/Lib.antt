@@ -2,3 +2,5 @@
 pub mod Good
 pub mod Standings
 pub mod Text
+pub mod Reading
+pub mod Words

@@ -41,7 +41,12 @@ fn ends_empty(lines: &[Line]) -> bool
 }
 
 /// Whether a line is good behind the clauses and the earlier lines.
-fn is_good(alloc: Global, clauses: &[Clause], earlier: &[Line], line: &Line) -> Result<bool, AllocError>
+fn is_good(
+    alloc: Global,
+    clauses: &[Clause],
+    earlier: &[Line],
+    line: &Line,
+) -> Result<bool, AllocError>
     ensures { IfOk result (λ b. IsTrue b ↔ IsGood (before clauses.now earlier.now) line.now) }
 {
     let mut assigned = HashMap::new(alloc);
@@ -66,7 +71,12 @@ fn falsify(assigned: &mut HashMap<usize, bool>, clause: &[Lit]) -> Result<bool, 
 }
 
 /// Whether the hints refute the assignment: each but the last names a unit clause, and the last one a false clause.
-fn follow(assigned: &mut HashMap<usize, bool>, clauses: &[Clause], earlier: &[Line], hints: &[usize]) -> Result<bool, AllocError>
+fn follow(
+    assigned: &mut HashMap<usize, bool>,
+    clauses: &[Clause],
+    earlier: &[Line],
+    hints: &[usize],
+) -> Result<bool, AllocError>
     ensures { (ls : List Lit) → Assigns assigned.old ls → IfOk result (λ b. IsTrue b ↔ Refutes (before clauses.now earlier.now) ls hints.now) }
 {
     for (place, hint) in hints.iter().enumerate() {

@@ -2,12 +2,14 @@
 #![tactic(auto)]
 
 mod checking;
+mod reading;
 mod standing;
 mod writing;
 
 pub use checking::check;
-pub use writing::log_text;
+pub use reading::{LogFault, read_log};
 pub use std::alloc::AllocError as Memory;
+pub use writing::log_text;
 
 #[cfg(test)]
 mod tests;

@@ -1,5 +1,5 @@
 -- A literal more, or one that is true by then.
-use Rattle.std.proofs.Common.{◌≡◌, ◌∷◌, [], ◌++◌, ◌+◌, List, ℕ, Bool, false, take, get_or, ap, sym, subst, ◌∙◌, refl, not}
+use Rattle.std.proofs.Common.{[], ◌+◌, List, false, take, get_or, sym, subst}
 use Rattle.std.specs.Prelude.{nat_eq}
 use Rattle.std.specs.HashMap.{get}
 use Rattle.std.proofs.lemmas.List.{take_more}

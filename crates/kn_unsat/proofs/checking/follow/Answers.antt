@@ -1,10 +1,8 @@
 -- What each hint does.
-use Rattle.std.proofs.Common.{◌≡◌, ◌∷◌, [], ◌+◌, List, ℕ, Bool, not, drop, get_or, ap, sym, subst, ◌∙◌, refl}
+use Rattle.std.proofs.Common.{◌∷◌, not, refl}
 use Rattle.std.specs.Prelude.{nat_eq}
 use Rattle.std.specs.HashMap.{get}
-use Rattle.kn_cnf.specs.declared.clauses.Lit.{Lit}
-use Rattle.kn_unsat.specs.Standings.{Assigns}
-use Rattle.kn_unsat.specs.Good.{Refutes, before}
+use Rattle.kn_unsat.specs.Good.{before}
 use Rattle.kn_unsat.proofs.Falsified.{valued_more}
 use Rattle.kn_unsat.proofs.Hints.{follow_none, follow_other, follow_false, follow_unit}
 use Rattle.kn_unsat.proofs.checking.follow.Goals as goal

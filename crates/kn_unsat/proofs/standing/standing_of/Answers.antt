@@ -1,5 +1,5 @@
 -- How the clause stands with a literal more.
-use Rattle.std.proofs.Common.{◌≡◌, List, false, take, get_or, sym, subst}
+use Rattle.std.proofs.Common.{List, false, take, sym, subst}
 use Rattle.std.proofs.lemmas.List.{take_more}
 use Rattle.kn_cnf.specs.declared.clauses.Lit.{Lit}
 use Rattle.kn_unsat.specs.Standings.{Means}

@@ -1,5 +1,5 @@
 -- The lines written so far.
-use Rattle.std.proofs.Common.{◌≡◌, take, drop}
+use Rattle.std.proofs.Common.{◌≡◌, take}
 use Rattle.std.specs.Prelude.{string_bytes}
 use Rattle.std.specs.List.{AllByRecursion}
 use Rattle.kn_unsat.specs.Text.{text_of, IsNumbered}
