@@ -101,7 +101,7 @@ values_more bits front ns i h =
     ap (λ (xs : List AigNode). values_of bits (front ∷ xs)) (take_more ns i nodes.Constant h) ∙ built-snoc (node_of bits) (front ∷ take i ns) (get_or ns i nodes.Constant)
 
 -- the inputs before one of them are fewer than all
-inputs_before : (ns : List AigNode) (k i : ℕ) → slice_get ns k ≡ Some (nodes.Input i) → inputs_of (take k ns) < inputs_of ns
+pub inputs_before : (ns : List AigNode) (k i : ℕ) → slice_get ns k ≡ Some (nodes.Input i) → inputs_of (take k ns) < inputs_of ns
 inputs_before [] k i at = absurd cc
 inputs_before (n ∷ ns) zero i at =
     let is : n ≡ nodes.Input i = cc in

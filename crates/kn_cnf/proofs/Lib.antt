@@ -1,2 +1,5 @@
 -- The lemmas on clauses.
 pub mod Equal
+pub mod Marks
+pub mod Encoded
+pub mod Finished

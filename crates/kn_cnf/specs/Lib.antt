@@ -2,3 +2,5 @@
 pub mod Formulas
 pub mod Truth
 pub mod Units
+pub mod Encoding
+pub mod SoFar

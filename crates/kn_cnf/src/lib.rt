@@ -2,9 +2,11 @@
 #![tactic(auto)]
 
 mod clauses;
+mod encoding;
 mod logs;
 
 pub use clauses::{Clause, Cnf, Lit};
+pub use encoding::of_aig;
 pub use logs::{Line, Log};
 pub use std::alloc::AllocError as Memory;
 
