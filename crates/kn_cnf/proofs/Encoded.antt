@@ -174,15 +174,18 @@ module _ (ns : List AigNode) (marks : List Bool) (circuit : IsCircuit ns) where
       ];
       met = λ v g. so_far.met v (λ k x y h mk ak. (renamed v k x y h ak).1 (g k x y (omega (arith, h)) mk ak));
       extends = λ bits count.
-        let old = so_far.extends bits count in
-        (old.0, old.1, λ k h z mk. elim (cases_eq k n) [
-          | inl e ↦
-              ap (λ (j : ℕ). old.0 (name (names ++ m ∷ []) j)) e
-              ∙ (ap old.0 here
-              ∙ (new_value bits old.0 old.1 p at no_gate is_input (omega (arith, z, e)) (ap (mark marks) (sym e) ∙ mk)
-              ∙ ap (λ (j : ℕ). get_or (values_of bits ns) j false) (sym e)))
-          | inr d ↦ let before : k < n = omega (arith, h, d) in ap old.0 (kept k before) ∙ old.2 k before z mk
-        ]);
+          let old = so_far.extends bits count in (
+            old.0,
+            old.1,
+            λ k h z mk. elim (cases_eq k n) [
+              | inl e ↦
+                  ap (λ (j : ℕ). old.0 (name (names ++ m ∷ []) j)) e
+                  ∙ (ap old.0 here
+                  ∙ (new_value bits old.0 old.1 p at no_gate is_input (omega (arith, z, e)) (ap (mark marks) (sym e) ∙ mk)
+                  ∙ ap (λ (j : ℕ). get_or (values_of bits ns) j false) (sym e)))
+              | inr d ↦ let before : k < n = omega (arith, h, d) in ap old.0 (kept k before) ∙ old.2 k before z mk
+            ],
+          );
     }
       where
         new_value : (bits : List Bool) (v : ℕ → Bool) → ((i : ℕ) → i < inputs_of ns → v i ≡ get_or bits i false) → (p : AigNode) → slice_get ns n ≡ Some p → ((x y : Edge) → mark marks n ≡ true → p ≡ nodes.And x y → ⊥) → ((i : ℕ) → p ≡ nodes.Input i → m ≡ i) → 0 < n → mark marks n ≡ true → v m ≡ get_or (values_of bits ns) n false
@@ -201,7 +204,7 @@ with_other : (v : ℕ → Bool) (n : ℕ) (b : Bool) (q : ℕ) → q ≢ n → w
 with_other v n b q d = ap (λ (t : Bool). if t then b else v q) (ne_eqb q n d)
 
 module _ (ns : List AigNode) (marks : List Bool) (circuit : IsCircuit ns) (n : ℕ) (names : List ℕ) (vars : ℕ) (cs : List (List Lit)) (so_far : Encoded ns marks n names vars cs) (x y : Edge)
-  (at : slice_get ns n ≡ Some (nodes.And x y)) (marked : mark marks n ≡ true) (mx : mark marks x.node ≡ true) (my : mark marks y.node ≡ true) where
+    (at : slice_get ns n ≡ Some (nodes.And x y)) (marked : mark marks n ≡ true) (mx : mark marks x.node ≡ true) (my : mark marks y.node ≡ true) where
   more : List ℕ
   more = names ++ vars ∷ []
 
@@ -246,43 +249,44 @@ module _ (ns : List AigNode) (marks : List Bool) (circuit : IsCircuit ns) (n : �
       | inr d ↦ let before : k < n = omega (arith, h, d) in let g = so_far.gates k a b before mk ak in (omega (arith, g.0, kept ns marks circuit n names vars cs so_far vars k before), omega (arith, g.1, kept ns marks circuit n names vars cs so_far vars k before))
     ];
     below =
-      let lx = lit_low x order.0 (omega (arith, order.1, order.2)) mx in
-      let ly = lit_low y (omega (arith, order.0, order.1)) order.2 my in
-      let g : vars < vars + 1 = omega arith in
-      let px : name names x.node < vars + 1 = omega (arith, lx) in
-      let py : name names y.node < vars + 1 = omega (arith, ly) in
-      below_join (vars + 1) cs (gate_clauses (record { var = vars; neg = false }) (lit_of names x) (lit_of names y)) (below_more vars (vars + 1) cs (omega arith) so_far.below) ((g, (px, tt)), ((g, (py, tt)), ((g, (px, (py, tt))), tt)));
+        let lx = lit_low x order.0 (omega (arith, order.1, order.2)) mx in
+        let ly = lit_low y (omega (arith, order.0, order.1)) order.2 my in
+        let g : vars < vars + 1 = omega arith in
+        let px : name names x.node < vars + 1 = omega (arith, lx) in
+        let py : name names y.node < vars + 1 = omega (arith, ly) in
+        below_join (vars + 1) cs (gate_clauses (record { var = vars; neg = false }) (lit_of names x) (lit_of names y)) (below_more vars (vars + 1) cs (omega arith) so_far.below) ((g, (px, tt)), ((g, (py, tt)), ((g, (px, (py, tt))), tt)));
     meets = λ v e k a b h mk ak.
-      let parts = meets_both v cs (gate_clauses (record { var = vars; neg = false }) (lit_of names x) (lit_of names y)) e in
-      elim (cases_eq k n) [
-        | inl same ↦
-            let ab = same_node k a b same ak in
-            let is = (gate_here v).0 (gate_meets v (record { var = vars; neg = false }) (lit_of names x) (lit_of names y) parts.1) in
-            ap (λ (j : ℕ). v (name (names ++ vars ∷ []) j)) same ∙ (is ∙ (ap (λ (z : Edge). edge_true v (names ++ vars ∷ []) z && edge_true v (names ++ vars ∷ []) y) ab.0 ∙ ap (λ (z : Edge). edge_true v (names ++ vars ∷ []) a && edge_true v (names ++ vars ∷ []) z) ab.1))
-        | inr d ↦ let before : k < n = omega (arith, h, d) in (renamed ns marks circuit n names vars cs so_far vars v k a b before ak).0 (so_far.meets v parts.0 k a b before mk ak)
-      ];
+        let parts = meets_both v cs (gate_clauses (record { var = vars; neg = false }) (lit_of names x) (lit_of names y)) e in
+        elim (cases_eq k n) [
+          | inl same ↦
+              let ab = same_node k a b same ak in
+              let is = (gate_here v).0 (gate_meets v (record { var = vars; neg = false }) (lit_of names x) (lit_of names y) parts.1) in
+              ap (λ (j : ℕ). v (name (names ++ vars ∷ []) j)) same ∙ (is ∙ (ap (λ (z : Edge). edge_true v (names ++ vars ∷ []) z && edge_true v (names ++ vars ∷ []) y) ab.0 ∙ ap (λ (z : Edge). edge_true v (names ++ vars ∷ []) a && edge_true v (names ++ vars ∷ []) z) ab.1))
+          | inr d ↦ let before : k < n = omega (arith, h, d) in (renamed ns marks circuit n names vars cs so_far vars v k a b before ak).0 (so_far.meets v parts.0 k a b before mk ak)
+        ];
     met = λ v g.
-      meets_join v cs (gate_clauses (record { var = vars; neg = false }) (lit_of names x) (lit_of names y))
-      (so_far.met v (λ k a b h mk ak. (renamed ns marks circuit n names vars cs so_far vars v k a b h ak).1 (g k a b (omega (arith, h)) mk ak)))
-      (gate_met v (record { var = vars; neg = false }) (lit_of names x) (lit_of names y) ((gate_here v).1 (g n x y (omega arith) marked at)));
+        meets_join v cs (gate_clauses (record { var = vars; neg = false }) (lit_of names x) (lit_of names y))
+        (so_far.met v (λ k a b h mk ak. (renamed ns marks circuit n names vars cs so_far vars v k a b h ak).1 (g k a b (omega (arith, h)) mk ak)))
+        (gate_met v (record { var = vars; neg = false }) (lit_of names x) (lit_of names y) ((gate_here v).1 (g n x y (omega arith) marked at)));
     extends = λ bits count.
-      let old = so_far.extends bits count in
-      let b = edge_of (values_of bits ns) x && edge_of (values_of bits ns) y in
-      let v = with_value old.0 vars b in
-      (v,
-      λ i h. with_other old.0 vars b i (omega (arith, h, so_far.low)) ∙ old.1 i h,
-      λ k h z mk. elim (cases_eq k n) [
-        | inl e ↦
-            ap (λ (j : ℕ). v (name (names ++ vars ∷ []) j)) e
-            ∙ (ap v (get_or_push names vars 0 n so_far.long)
-            ∙ (with_here old.0 vars b
-            ∙ (sym (node_value bits ns n (nodes.And x y) circuit.1 at)
-            ∙ ap (λ (j : ℕ). get_or (values_of bits ns) j false) (sym e))))
-        | inr d ↦
-            let before : k < n = omega (arith, h, d) in
-            let low = name_low ns marks circuit n names vars cs so_far 0 k before z mk (omega (arith, before, size)) in
-            ap v (kept ns marks circuit n names vars cs so_far vars k before) ∙ (with_other old.0 vars b (name names k) (omega (arith, low)) ∙ old.2 k before z mk)
-      ]);
+        let old = so_far.extends bits count in
+        let b = edge_of (values_of bits ns) x && edge_of (values_of bits ns) y in
+        let v = with_value old.0 vars b in (
+          v,
+          λ i h. with_other old.0 vars b i (omega (arith, h, so_far.low)) ∙ old.1 i h,
+          λ k h z mk. elim (cases_eq k n) [
+            | inl e ↦
+                ap (λ (j : ℕ). v (name (names ++ vars ∷ []) j)) e
+                ∙ (ap v (get_or_push names vars 0 n so_far.long)
+                ∙ (with_here old.0 vars b
+                ∙ (sym (node_value bits ns n (nodes.And x y) circuit.1 at)
+                ∙ ap (λ (j : ℕ). get_or (values_of bits ns) j false) (sym e))))
+            | inr d ↦
+                let before : k < n = omega (arith, h, d) in
+                let low = name_low ns marks circuit n names vars cs so_far 0 k before z mk (omega (arith, before, size)) in
+                ap v (kept ns marks circuit n names vars cs so_far vars k before) ∙ (with_other old.0 vars b (name names k) (omega (arith, low)) ∙ old.2 k before z mk)
+          ],
+        );
   }
 
 -- one node more
@@ -294,6 +298,7 @@ encoded_step ns marks root n names more vars next cs ds p b circuit are so_far a
   where
     none : (m k : ℕ) → Encoded ns marks (n + 1) (names ++ m ∷ []) k cs → Encoded ns marks (n + 1) (names ++ m ∷ []) k (cs ++ [])
     none m k e = subst (λ (l : List (List Lit)). Encoded ns marks (n + 1) (names ++ m ∷ []) k l) (sym (append-nil cs)) e
+
     go : (p : AigNode) (b : Bool) → slice_get ns n ≡ Some p → b ≡ mark marks n → Encoded ns marks (n + 1) (names ++ name_of vars b p ∷ []) (vars_after vars b p) (cs ++ clauses_of names vars b p)
     go nodes.Constant b at is = none 0 vars (encoded_plain ns marks circuit n names vars cs so_far 0 nodes.Constant at (λ x y m e. cc) (λ i e. absurd cc))
     go (nodes.Input i) b at is = none i vars (encoded_plain ns marks circuit n names vars cs so_far i (nodes.Input i) at (λ x y m e. cc) (λ j e. cc))

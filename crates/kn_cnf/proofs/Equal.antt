@@ -43,9 +43,10 @@ lits_decide xs ys = slice_eq-Decides lit_decides xs ys _ refl
 
 -- two tests that decide two parts decide the whole
 both_decide : {P Q R : Type 0} (a b r : Bool) → Decides a P → Decides b Q → r ≡ (a && b) → (P → Q → R) → (R → P) → (R → Q) → Decides r R
-both_decide a b r da db is make first second =
-    (λ h. let parts = both_true a b (sym is ∙ h) in make (da.0 parts.0) (db.0 parts.1),
-    λ h. is ∙ (ap (λ (x : Bool). x && b) (da.1 (first h)) ∙ db.1 (second h)))
+both_decide a b r da db is make first second = (
+  λ h. let parts = both_true a b (sym is ∙ h) in make (da.0 parts.0) (db.0 parts.1),
+  λ h. is ∙ (ap (λ (x : Bool). x && b) (da.1 (first h)) ∙ db.1 (second h)),
+)
 
 -- clauses compare as lists of lists
 pub pointwise_items : (xs ys : List (Vec Lit Global)) → pointwise (λ (a b : Vec Lit Global). pointwise same_lit a.items b.items) xs ys ≡ pointwise (pointwise same_lit) (map items_of xs) (map items_of ys)

@@ -111,17 +111,18 @@ module _ (ns : List AigNode) (root : Edge) (marks : List Bool) (names : List ℕ
       inputs = λ k i at. all.inputs k i (slice_get_within ns k _ at) at;
       gates = λ k x y under at. all.gates k x y (slice_get_within ns k _ at) (under_marked ns root.node marks are k under) at;
       meets = λ v m.
-        let parts = meets_both v cs ((lit_of names root ∷ []) ∷ []) m in
-        let hold = all.meets v parts.0 in
-        let top = all_values v hold (length ns) root.node inside inside some are.top in
-        (λ k x y under at.
-          let h = slice_get_within ns k _ at in
-          let f = gate_children ns marks circuit k x y at in
-          all_values v hold (length ns) k h h (omega (arith, f.2)) (under_marked ns root.node marks are k under),
-        sym (edge_value v names root (values_of (bits_of v ns) ns) top) ∙ root_clause v parts.1);
+          let parts = meets_both v cs ((lit_of names root ∷ []) ∷ []) m in
+          let hold = all.meets v parts.0 in
+          let top = all_values v hold (length ns) root.node inside inside some are.top in (
+            λ k x y under at.
+                let h = slice_get_within ns k _ at in
+                let f = gate_children ns marks circuit k x y at in
+                all_values v hold (length ns) k h h (omega (arith, f.2)) (under_marked ns root.node marks are k under),
+            sym (edge_value v names root (values_of (bits_of v ns) ns) top) ∙ root_clause v parts.1,
+          );
       met = λ v have is.
-        let top = node_has v have root.node inside some are.top in
-        meets_join v cs ((lit_of names root ∷ []) ∷ []) (all.met v (have_hold v have)) (root_met v (edge_value v names root (values_of (bits_of v ns) ns) top ∙ is));
+          let top = node_has v have root.node inside some are.top in
+          meets_join v cs ((lit_of names root ∷ []) ∷ []) (all.met v (have_hold v have)) (root_met v (edge_value v names root (values_of (bits_of v ns) ns) top ∙ is));
     }
 
     pub extendable : IsExtendable ns root whole
@@ -131,8 +132,8 @@ module _ (ns : List AigNode) (root : Edge) (marks : List Bool) (names : List ℕ
         let v = made.0 in
         let same : bits_of v ns ≡ bits = bits_agree v 0 (inputs_of ns) bits count (λ j h. let e : 0 + j ≡ j = omega arith in ap v e ∙ made.1 j h) in
         let have : HaveValues ns root (name names) v = λ k x y under at.
-          let f = gate_children ns marks circuit k x y at in
-          made.2 k (slice_get_within ns k _ at) (omega (arith, f.2)) (under_marked ns root.node marks are k under) ∙ ap (λ (b : List Bool). value_of b ns (plain k)) (sym same) in
+        let f = gate_children ns marks circuit k x y at in
+        made.2 k (slice_get_within ns k _ at) (omega (arith, f.2)) (under_marked ns root.node marks are k under) ∙ ap (λ (b : List Bool). value_of b ns (plain k)) (sym same) in
         (v, same, encoding.met v have (ap (λ (b : List Bool). value_of b ns root) same ∙ is))
 
     pub below : AreBelow vars (cs ++ (lit_of names root ∷ []) ∷ [])

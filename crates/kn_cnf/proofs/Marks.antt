@@ -30,9 +30,9 @@ under_child ns root k m under child = (under.0 ++ m ∷ [], go root under.0 unde
 
 mark_set : (marks : List Bool) (i k : ℕ) → mark marks k ≡ true → mark (set marks i true) k ≡ true
 mark_set marks i k m = elim (cases_eq k i) [
-    | inl e ↦ subst (λ (j : ℕ). mark (set marks i true) j ≡ true) (sym e) (get_or-set_same marks i true false (marked_within marks i (ap (mark marks) (sym e) ∙ m)))
-    | inr n ↦ let ne : k ≢ i = n in get_or-set_other marks i k true false ne ∙ m
-  ]
+  | inl e ↦ subst (λ (j : ℕ). mark (set marks i true) j ≡ true) (sym e) (get_or-set_same marks i true false (marked_within marks i (ap (mark marks) (sym e) ∙ m)))
+  | inr n ↦ let ne : k ≢ i = n in get_or-set_other marks i k true false ne ∙ m
+]
   where
     marked_within : (ms : List Bool) (j : ℕ) → mark ms j ≡ true → j < length ms
     marked_within [] j e = absurd cc
@@ -44,9 +44,9 @@ mark_here marks i inside = get_or-set_same marks i true false inside
 
 mark_was : (marks : List Bool) (i k : ℕ) → i < length marks → mark (set marks i true) k ≡ true → (k ≡ i) ⊎ (mark marks k ≡ true)
 mark_was marks i k inside m = elim (cases_eq k i) [
-    | inl e ↦ inl e
-    | inr n ↦ let ne : k ≢ i = n in inr (sym (get_or-set_other marks i k true false ne) ∙ m)
-  ]
+  | inl e ↦ inl e
+  | inr n ↦ let ne : k ≢ i = n in inr (sym (get_or-set_other marks i k true false ne) ∙ m)
+]
 
 -- no place but the root is marked at first
 pub marked_first : (n root k : ℕ) → mark (set (replicate n false) root true) k ≡ true → root < n → k ≡ root

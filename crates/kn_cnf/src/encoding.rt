@@ -74,7 +74,13 @@ fn encode(alloc: Global, aig: &Aig, root: usize) -> Result<Parts, AllocError>
     let mut clauses: Vec<Clause> = Vec::new(alloc);
     let mut vars = aig.inputs();
     for place in 0..aig.size() {
-        vars = put_node(&mut names, &mut clauses, vars, aig.gate(place), marks[place])?;
+        vars = put_node(
+            &mut names,
+            &mut clauses,
+            vars,
+            aig.gate(place),
+            marks[place],
+        )?;
     }
     Ok(Parts {
         names,
@@ -109,7 +115,13 @@ fn marks_of(alloc: Global, aig: &Aig, root: usize) -> Result<Vec<bool>, AllocErr
 
 /// Gives the next node its variable, and appends its clauses where it is a marked gate. The answer is how many variables
 /// there are then.
-fn put_node(names: &mut Vec<usize>, clauses: &mut Vec<Clause>, vars: usize, node: AigNode, marked: bool) -> Result<usize, AllocError>
+fn put_node(
+    names: &mut Vec<usize>,
+    clauses: &mut Vec<Clause>,
+    vars: usize,
+    node: AigNode,
+    marked: bool,
+) -> Result<usize, AllocError>
     requires { IsWithin (length names.old.items) node }
     ensures names { OnOk result (names.new.items ≡ names.old.items ++ name_of vars marked node ∷ []) }
     ensures clauses { OnOk result (map items_of clauses.new.items ≡ map items_of clauses.old.items ++ clauses_of names.old.items vars marked node) }

@@ -82,7 +82,6 @@ fn copied(alloc: Global, lines: &[Line]) -> Result<Vec<Line>, AllocError>
     Ok(copy)
 }
 
-
 impl PartialEq for Line {
     ghost use Rattle.std.specs.Cmp.Lexicographic.{pointwise};
     ghost use Rattle.std.specs.Cmp.Rules.{comparing};

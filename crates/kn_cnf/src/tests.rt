@@ -8,7 +8,11 @@ fn is_shared<T: Send + Sync>(_value: &T) {}
 
 /// Whether the clauses hold under these values.
 fn is_met(cnf: &Cnf, values: &[bool]) -> bool {
-    cnf.clauses.iter().all(|clause: &Clause| -> bool { clause.iter().any(|l: &Lit| -> bool { values.get(l.var).copied().unwrap_or(false) != l.neg }) })
+    cnf.clauses.iter().all(|clause: &Clause| -> bool {
+        clause.iter().any(|l: &Lit| -> bool {
+            values.get(l.var).copied().unwrap_or(false) != l.neg
+        })
+    })
 }
 
 #[test]
