@@ -128,7 +128,7 @@ module _ (ns : List AigNode) (marks : List Bool) (circuit : IsCircuit ns) where
   gate_children k x y at = circuit.1 k (nodes.And x y) at
 
   module _ (n : ℕ) (names : List ℕ) (vars : ℕ) (cs : List (List Lit)) (so_far : Encoded ns marks n names vars cs) (m : ℕ) where
-    kept : (k : ℕ) → k < n → name (names ++ m ∷ []) k ≡ name names k
+    pub kept : (k : ℕ) → k < n → name (names ++ m ∷ []) k ≡ name names k
     kept k h = name_kept names m k (omega (arith, h, so_far.long))
 
     here : name (names ++ m ∷ []) n ≡ m

@@ -3,3 +3,4 @@ pub mod Equal
 pub mod Marks
 pub mod Encoded
 pub mod Finished
+pub mod Spreading

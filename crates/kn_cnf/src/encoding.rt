@@ -3,6 +3,7 @@
 ghost use Rattle.std.specs.Prelude.{◌≡◌, ◌≢◌, ◌<◌, ◌≤◌, ◌+◌, ◌&&◌, ◌↔◌, ◌++◌, [], ◌∷◌, ℕ, Bool, List, Some, IfOk, OnOk, true, false, length, vec_len, slice_get, slice_index_or, map};
 ghost use Rattle.kn_aig.specs.Circuits.{Stands, IsCircuit, Fits, inputs_of};
 ghost use Rattle.kn_cnf.specs.Formulas.{items_of, AreBelow};
+ghost use Rattle.kn_cnf.specs.Units.{IsDecided};
 ghost use Rattle.kn_cnf.specs.SoFar.{IsEncoded};
 ghost use Rattle.kn_cnf.specs.Encoding.{AreMarked, IsEncoding, IsExtendable, lit_of, gate_clauses, name_of, clauses_of, vars_after, IsWithin};
 
@@ -12,13 +13,15 @@ use std::alloc::{AllocError, Global};
 
 /// The clauses of a circuit and its root. The inputs are the first variables, in order, and each gate below the root has
 /// a variable behind them. Values of the variables meet the clauses exactly where each such gate has its value under the
-/// values of the inputs and the root is true. Err is want of memory.
+/// values of the inputs and the root is true. Unit propagation completes or refutes each assignment of the inputs. Err is
+/// want of memory.
 pub fn of_aig(alloc: Global, aig: &Aig, root: Edge) -> Result<Cnf, AllocError>
     requires { Stands aig.now root }
     ensures inputs { IfOk result (λ f. inputs_of aig.now ≤ f.vars) }
     ensures below { IfOk result (λ f. AreBelow f.vars f.clauses) }
     ensures exact { IfOk result (IsEncoding aig.now root) }
     ensures extends { IfOk result (IsExtendable aig.now root) }
+    ensures decided { IfOk result (IsDecided (inputs_of aig.now)) }
 {
     if root.node == 0 {
         return of_constant(alloc, aig, root);
@@ -40,6 +43,7 @@ fn of_constant(alloc: Global, aig: &Aig, root: Edge) -> Result<Cnf, AllocError>
     ensures below { IfOk result (λ f. AreBelow f.vars f.clauses) }
     ensures exact { IfOk result (IsEncoding aig.now root) }
     ensures extends { IfOk result (IsExtendable aig.now root) }
+    ensures decided { IfOk result (IsDecided (inputs_of aig.now)) }
 {
     let _ = aig.size();
     let mut clauses: Vec<Clause> = Vec::new(alloc);
