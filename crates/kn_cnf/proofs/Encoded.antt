@@ -1,22 +1,22 @@
 -- The clauses of the nodes so far.
-use Rattle.std.proofs.Common.{◌≡◌, ◌≢◌, ℕ, zero, suc, ◌+◌, ◌-◌, ◌<◌, ◌≤◌, Bool, true, false, not, eqb, cond, ◌&&◌, ◌||◌, List, [], ◌∷◌, ◌++◌, length, get_or, refl, ap, sym, subst, ◌∙◌, inl, inr, arith, length-append, append-nil}
-use Rattle.std.specs.Prelude.{slice_get, Some, ◌⊎◌, if◌then◌else◌}
+use Rattle.std.proofs.Common.{◌≡◌, ◌≢◌, ℕ, ◌+◌, ◌<◌, ◌≤◌, Bool, true, false, not, eqb, ◌&&◌, ◌||◌, List, [], ◌∷◌, ◌++◌, length, get_or, refl, ap, sym, subst, ◌∙◌, inl, inr, arith, length-append, append-nil}
+use Rattle.std.specs.Prelude.{slice_get, Some, if◌then◌else◌}
 use Rattle.std.specs.List.{AllByRecursion}
-use Rattle.std.proofs.lemmas.Bool.{cases_Bool, cases_eq, eqb-true, eq-eqb, ne_eqb}
+use Rattle.std.proofs.lemmas.Bool.{cases_eq, eq-eqb, ne_eqb}
 use Rattle.std.proofs.lemmas.List.{get_or_append_left, get_or_push}
 use Rattle.std.proofs.lemmas.Option.{slice_get_within, slice_get-get_or}
 use Rattle.kn_aig.specs.declared.gates.Edge.{Edge}
 use Rattle.kn_aig.specs.declared.gates.AigNode.{AigNode}
 use Rattle.kn_aig.specs.declared.gates.AigNode.TheVariants as nodes
-use Rattle.kn_aig.specs.Circuits.{flip, edge_of, node_of, values_of, value_of, inputs_of, Fits, AllFit, IsCircuit}
+use Rattle.kn_aig.specs.Circuits.{edge_of, values_of, inputs_of, IsCircuit}
 use Rattle.kn_aig.proofs.Ands.{node_value}
 use Rattle.kn_aig.proofs.Chains.{inputs_before}
 use Rattle.kn_cnf.specs.declared.clauses.Lit.{Lit}
-use Rattle.kn_cnf.specs.Formulas.{Formula, AreBelow}
+use Rattle.kn_cnf.specs.Formulas.{AreBelow}
 use Rattle.kn_cnf.specs.Truth.{lit_true, clause_true, all_true, Meets}
 use Rattle.kn_cnf.specs.Units.{negated}
-use Rattle.kn_cnf.specs.Encoding.{mark, AreMarked, IsUnder, IsWay, IsChild, lit_of, gate_clauses, name_of, vars_after, clauses_of, bits_from, bits_of, plain, HaveValues}
-use Rattle.kn_cnf.specs.SoFar.{name, edge_true, GatesHold, Encoded}
+use Rattle.kn_cnf.specs.Encoding.{mark, AreMarked, lit_of, gate_clauses, name_of, vars_after, clauses_of}
+use Rattle.kn_cnf.specs.SoFar.{name, edge_true, Encoded}
 use Rattle.kn_cnf.proofs.Marks.{some_is}
 
 -- the three clauses of a gate say that it has its value

@@ -1,17 +1,17 @@
 -- The clauses of all nodes, and of the root.
-use Rattle.std.proofs.Common.{◌≡◌, ◌≢◌, ℕ, zero, suc, ◌+◌, ◌<◌, ◌≤◌, Bool, true, false, not, ◌&&◌, ◌||◌, List, [], ◌∷◌, ◌++◌, length, get_or, refl, ap, sym, subst, ◌∙◌, inl, inr, arith}
-use Rattle.std.specs.Prelude.{slice_get, Some, None, ◌⊎◌, if◌then◌else◌}
+use Rattle.std.proofs.Common.{◌≡◌, ℕ, zero, suc, ◌+◌, ◌<◌, Bool, true, false, ◌&&◌, ◌||◌, List, [], ◌∷◌, ◌++◌, length, get_or, refl, ap, sym, ◌∙◌, inl, inr, arith}
+use Rattle.std.specs.Prelude.{slice_get, Some, None, if◌then◌else◌}
 use Rattle.std.specs.declared.option.Option.{Option}
 use Rattle.std.proofs.lemmas.Option.{slice_get_within, slice_get-get_or}
 use Rattle.kn_aig.specs.declared.gates.Edge.{Edge}
 use Rattle.kn_aig.specs.declared.gates.AigNode.{AigNode}
 use Rattle.kn_aig.specs.declared.gates.AigNode.TheVariants as nodes
-use Rattle.kn_aig.specs.Circuits.{flip, edge_of, node_of, values_of, value_of, inputs_of, Stands, IsCircuit}
+use Rattle.kn_aig.specs.Circuits.{flip, edge_of, values_of, value_of, inputs_of, IsCircuit}
 use Rattle.kn_aig.proofs.Ands.{node_value}
 use Rattle.kn_cnf.specs.declared.clauses.Lit.{Lit}
 use Rattle.kn_cnf.specs.Formulas.{Formula, AreBelow}
-use Rattle.kn_cnf.specs.Truth.{lit_true, clause_true, all_true, Meets}
-use Rattle.kn_cnf.specs.Encoding.{mark, AreMarked, IsUnder, IsWay, IsChild, lit_of, bits_from, bits_of, plain, HaveValues, IsEncoding, IsExtendable}
+use Rattle.kn_cnf.specs.Truth.{Meets}
+use Rattle.kn_cnf.specs.Encoding.{mark, AreMarked, IsUnder, IsWay, lit_of, bits_from, bits_of, plain, HaveValues, IsEncoding, IsExtendable}
 use Rattle.kn_cnf.proofs.Marks.{some_is}
 use Rattle.kn_cnf.specs.SoFar.{name, edge_true, GatesHold, Encoded}
 use Rattle.kn_cnf.proofs.Encoded.{meets_both, meets_join, below_join, edge_value, input_low, gate_children, name_low}

@@ -1,21 +1,20 @@
 -- Unit propagation along the clauses of gates.
-use Rattle.std.proofs.Common.{◌≡◌, ◌≢◌, ℕ, zero, suc, ◌+◌, ◌<◌, ◌≤◌, Bool, true, false, not, eqb, ◌&&◌, List, [], ◌∷◌, ◌++◌, length, get_or, refl, ap, sym, subst, ◌∙◌, inl, inr, arith, append-nil}
+use Rattle.std.proofs.Common.{◌≡◌, ◌≢◌, ℕ, zero, suc, ◌+◌, ◌<◌, ◌≤◌, Bool, true, false, not, ◌&&◌, List, [], ◌∷◌, ◌++◌, length, get_or, refl, ap, sym, subst, ◌∙◌, inl, inr, arith, append-nil}
 use Rattle.std.specs.Prelude.{slice_get, Some, None, ◌⊎◌, if◌then◌else◌}
 use Rattle.std.specs.declared.option.Option.{Option}
 use Rattle.std.specs.Option.{option_map}
-use Rattle.std.proofs.lemmas.Bool.{cases_Bool, cases_eq, eq-eqb, ne_eqb}
+use Rattle.std.proofs.lemmas.Bool.{cases_eq, eq-eqb, ne_eqb}
 use Rattle.std.proofs.lemmas.List.{get_or_push}
 use Rattle.std.proofs.lemmas.Option.{slice_get_within}
 use Rattle.kn_aig.specs.declared.gates.Edge.{Edge}
 use Rattle.kn_aig.specs.declared.gates.AigNode.{AigNode}
 use Rattle.kn_aig.specs.declared.gates.AigNode.TheVariants as nodes
-use Rattle.kn_aig.specs.Circuits.{flip, edge_of, node_of, values_of, value_of, inputs_of, IsCircuit}
+use Rattle.kn_aig.specs.Circuits.{edge_of, values_of, inputs_of, IsCircuit}
 use Rattle.kn_aig.proofs.Ands.{node_value}
 use Rattle.kn_cnf.specs.declared.clauses.Lit.{Lit}
-use Rattle.kn_cnf.specs.Units.{negated, valued, lit_value, Has, IsFalse, IsUnit, HasClause, IsPropagated, IsCompleted, IsRefuted, assigned_from, IsDecided}
+use Rattle.kn_cnf.specs.Units.{negated, valued, lit_value, IsUnit, HasClause, IsPropagated, IsCompleted, IsRefuted, assigned_from, IsDecided}
 use Rattle.kn_cnf.specs.Encoding.{mark, AreMarked, lit_of, gate_clauses, name_of, vars_after, clauses_of}
 use Rattle.kn_cnf.specs.SoFar.{name, Encoded, Spread, Spreads}
-use Rattle.kn_cnf.proofs.Marks.{some_is}
 use Rattle.kn_cnf.proofs.Encoded.{input_low, gate_children, name_low, kept}
 
 -- a variable of the assignment of the inputs

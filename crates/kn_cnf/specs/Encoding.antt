@@ -1,11 +1,11 @@
 -- The clauses of a circuit.
-use Rattle.std.specs.Prelude.{◌≡◌, ◌<◌, ◌≤◌, ◌+◌, ◌⊎◌, ◌&&◌, ℕ, zero, suc, Bool, true, false, not, List, [], ◌∷◌, ◌++◌, length, slice_get, slice_index_or, Some, map, ⊤, if◌then◌else◌}
+use Rattle.std.specs.Prelude.{◌≡◌, ◌<◌, ◌≤◌, ◌+◌, ◌⊎◌, ℕ, zero, suc, Bool, true, false, List, [], ◌∷◌, length, slice_get, slice_index_or, Some, ⊤, if◌then◌else◌}
 use Rattle.kn_aig.specs.declared.gates.Edge.{Edge}
 use Rattle.kn_aig.specs.declared.gates.AigNode.{AigNode}
 use Rattle.kn_aig.specs.declared.gates.AigNode.TheVariants as nodes
-use Rattle.kn_aig.specs.Circuits.{flip, value_of, inputs_of}
+use Rattle.kn_aig.specs.Circuits.{value_of, inputs_of}
 use Rattle.kn_cnf.specs.declared.clauses.Lit.{Lit}
-use Rattle.kn_cnf.specs.Formulas.{Formula, AreBelow}
+use Rattle.kn_cnf.specs.Formulas.{Formula}
 use Rattle.kn_cnf.specs.Truth.{Meets}
 use Rattle.kn_cnf.specs.Units.{negated}
 

@@ -1,5 +1,5 @@
 -- Clauses under an assignment, which is a list of literals that are assigned true, the latest first.
-use Rattle.std.specs.Prelude.{◌≡◌, ◌==◌, ◌<◌, ◌+◌, ◌++◌, ⊤, ℕ, length, slice_get, Bool, true, false, not, if◌then◌else◌, ◌⊎◌, List, [], ◌∷◌, Some, None}
+use Rattle.std.specs.Prelude.{◌≡◌, ◌==◌, ◌<◌, ◌+◌, ◌++◌, ⊤, ℕ, length, slice_get, Bool, false, not, if◌then◌else◌, ◌⊎◌, List, [], ◌∷◌, Some, None}
 use Rattle.std.specs.declared.option.Option.{Option}
 use Rattle.std.specs.Option.{option_map}
 use Rattle.kn_cnf.specs.declared.clauses.Lit.{Lit}

@@ -1,5 +1,5 @@
 -- The clauses of one node more.
-use Rattle.std.proofs.Common.{◌≡◌, [], List, ℕ, sym, subst, ◌∙◌, ap, length, arith, rules}
+use Rattle.std.proofs.Common.{[], List, ℕ, sym, subst, ap, arith}
 use Rattle.std.specs.Prelude.{map}
 use Rattle.kn_aig.specs.Circuits.{inputs_of}
 use Rattle.kn_cnf.specs.declared.clauses.Lit.{Lit}

@@ -1,8 +1,5 @@
 -- One node further down.
-use Rattle.std.proofs.Common.{◌≡◌, ◌+◌, ◌-◌, ◌<◌, ℕ, Bool, List, true, false, set, replicate, length, ap, sym, subst, ◌∙◌, arith, rules}
-use Rattle.std.specs.Prelude.{slice_get, Some}
-use Rattle.kn_aig.specs.declared.gates.Edge.{Edge}
-use Rattle.kn_aig.specs.declared.gates.AigNode.{AigNode}
+use Rattle.std.proofs.Common.{◌≡◌, ◌+◌, ◌-◌, ℕ, Bool, List, true, false, set, replicate, sym, subst, ◌∙◌, arith, rules}
 use Rattle.kn_aig.specs.declared.gates.AigNode.TheVariants as nodes
 use Rattle.kn_cnf.specs.Encoding.{mark}
 use Rattle.kn_cnf.proofs.Marks.{MarkedDown, marked_gate, marked_other, marked_done, marked_start, mark_read, some_is}

@@ -1,9 +1,4 @@
 -- The nodes from here up are done.
-use Rattle.std.proofs.Common.{◌≡◌, ◌≤◌, ◌+◌, ℕ, true, length}
-use Rattle.std.specs.Prelude.{slice_get, Some}
-use Rattle.kn_aig.specs.declared.gates.Edge.{Edge}
-use Rattle.kn_aig.specs.declared.gates.AigNode.TheVariants as nodes
-use Rattle.kn_cnf.specs.Encoding.{mark, IsUnder}
 use Rattle.kn_cnf.proofs.Marks.{MarkedDown}
 use Rattle.kn_cnf.proofs.encoding.marks_of.Given as goal
 

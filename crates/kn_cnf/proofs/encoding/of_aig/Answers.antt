@@ -2,7 +2,7 @@
 use Rattle.std.proofs.Common.{◌≡◌, ◌++◌, ◌∷◌, [], ◌<◌, List, ℕ, ap, sym, subst, ◌∙◌, arith}
 use Rattle.std.specs.Prelude.{map}
 use Rattle.kn_cnf.specs.declared.clauses.Lit.{Lit}
-use Rattle.kn_cnf.specs.Formulas.{Formula, items_of, AreBelow}
+use Rattle.kn_cnf.specs.Formulas.{items_of, AreBelow}
 use Rattle.kn_cnf.specs.Encoding.{lit_of, IsEncoding, IsExtendable}
 use Rattle.kn_cnf.proofs.Finished.{encoding, extendable, below}
 use Rattle.kn_cnf.specs.Units.{IsDecided}

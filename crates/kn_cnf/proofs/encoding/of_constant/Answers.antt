@@ -1,9 +1,9 @@
 -- A constant root.
-use Rattle.std.proofs.Common.{◌≡◌, ◌++◌, ◌∷◌, [], List, ℕ, Bool, true, false, ap, sym, subst, ◌∙◌}
+use Rattle.std.proofs.Common.{◌≡◌, ◌++◌, ◌∷◌, [], List, ℕ, ap, sym, subst, ◌∙◌}
 use Rattle.std.specs.Prelude.{map}
 use Rattle.kn_aig.specs.Circuits.{inputs_of}
 use Rattle.kn_cnf.specs.declared.clauses.Lit.{Lit}
-use Rattle.kn_cnf.specs.Formulas.{Formula, items_of}
+use Rattle.kn_cnf.specs.Formulas.{items_of}
 use Rattle.kn_cnf.specs.Encoding.{IsEncoding, IsExtendable}
 use Rattle.kn_cnf.proofs.Finished.{constant_clauses, constant_encoding, constant_extendable, same_formula}
 use Rattle.kn_cnf.specs.Units.{IsDecided}
