@@ -90,6 +90,8 @@ fn other_files_are_refused(rt: HostRuntime) -> Result<(), Fail> {
         format!(in alloc; "{start}{program}")?,
         file(alloc, "ha.lf", HALF, 1)?,
         file(alloc, "half", "00", 1)?,
+        file(alloc, "half", "0g", 1)?,
+        file(alloc, "half", &HALF[1..], 1)?,
         file(alloc, "half", HALT_AT_RECV, 1)?,
         file(alloc, "half", LOOP, 1)?,
         file(alloc, "half", HALF, 13)?,

@@ -1,0 +1,6 @@
+-- The lemmas on circuits.
+pub mod BuiltLemmas
+pub mod Longer
+pub mod Ands
+pub mod Chains
+pub mod Kept

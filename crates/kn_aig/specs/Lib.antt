@@ -1,0 +1,3 @@
+-- The definitions of circuits.
+pub mod Built
+pub mod Circuits

@@ -1,0 +1,6 @@
+-- The definitions of clauses, of their truth, and of unit propagation.
+pub mod Formulas
+pub mod Truth
+pub mod Units
+pub mod Encoding
+pub mod SoFar

@@ -1,0 +1,15 @@
+//! The checker of logs, and their text.
+#![tactic(auto)]
+
+mod checking;
+mod reading;
+mod standing;
+mod writing;
+
+pub use checking::check;
+pub use reading::{LogFault, read_log};
+pub use std::alloc::AllocError as Memory;
+pub use writing::log_text;
+
+#[cfg(test)]
+mod tests;
