@@ -8,9 +8,9 @@ use Rattle.kn_aig.specs.declared.gates.Edge.{Edge}
 use Rattle.kn_aig.specs.declared.gates.Pair.{Pair}
 use Rattle.kn_aig.specs.declared.gates.AigNode.{AigNode}
 use Rattle.kn_aig.specs.declared.gates.AigNode.TheVariants as nodes
-use Rattle.kn_aig.specs.Built.{Extends}
+use Rattle.kn_built.specs.Built.{Extends}
 use Rattle.kn_aig.specs.Circuits.{flip, edge_of, node_of, values_of, value_of, inputs_of, Fits, AllFit, Stands, IsIndex, IsGate, IsAnd, pair_of}
-use Rattle.kn_aig.proofs.BuiltLemmas.{built_after-kept, built_at-row, built_at-before}
+use Rattle.kn_built.proofs.BuiltLaws.{built_after-kept, built_at-row, built_at-before}
 use Rattle.kn_aig.proofs.Longer.{inputs_of-append, value_of-pushed}
 
 -- an edge has one value where its node has

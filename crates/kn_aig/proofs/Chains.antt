@@ -6,9 +6,9 @@ use Rattle.std.proofs.lemmas.Option.{slice_get-get_or}
 use Rattle.kn_aig.specs.declared.gates.Edge.{Edge}
 use Rattle.kn_aig.specs.declared.gates.AigNode.{AigNode}
 use Rattle.kn_aig.specs.declared.gates.AigNode.TheVariants as nodes
-use Rattle.kn_aig.specs.Built.{Extends}
+use Rattle.kn_built.specs.Built.{Extends}
 use Rattle.kn_aig.specs.Circuits.{differ, flip, node_of, values_of, value_of, input_count, inputs_of, Fits, AllFit, Stands, IsAnd, IsWithin}
-use Rattle.kn_aig.proofs.BuiltLemmas.{built-snoc}
+use Rattle.kn_built.proofs.BuiltLaws.{built-snoc}
 use Rattle.kn_aig.proofs.Longer.{value_of-extends}
 
 -- an edge turned round

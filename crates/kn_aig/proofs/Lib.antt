@@ -1,5 +1,4 @@
 -- The lemmas on circuits.
-pub mod BuiltLemmas
 pub mod Longer
 pub mod Ands
 pub mod Chains

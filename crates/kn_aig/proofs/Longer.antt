@@ -11,9 +11,9 @@ use Rattle.kn_aig.specs.declared.gates.Edge.{Edge}
 use Rattle.kn_aig.specs.declared.gates.Pair.{Pair}
 use Rattle.kn_aig.specs.declared.gates.AigNode.{AigNode}
 use Rattle.kn_aig.specs.declared.gates.AigNode.TheVariants as nodes
-use Rattle.kn_aig.specs.Built.{Extends}
+use Rattle.kn_built.specs.Built.{Extends}
 use Rattle.kn_aig.specs.Circuits.{flip, node_of, values_of, value_of, inputs_of, Fits, AllFit, Stands, IsIndex, IsKept, same_edge, same_pair}
-use Rattle.kn_aig.proofs.BuiltLemmas.{built_at-extends, built_at-pushed}
+use Rattle.kn_built.proofs.BuiltLaws.{built_at-extends, built_at-pushed}
 
 -- where an element of a list with one more stands
 get_push : {X : Type 0} (xs : List X) (y : X) (k : ℕ) (n : X) → slice_get (xs ++ y ∷ []) k ≡ Some n → ((k < length xs) × (slice_get xs k ≡ Some n)) ⊎ ((k ≡ length xs) × (y ≡ n))

@@ -6,7 +6,7 @@ use Rattle.kn_aig.specs.declared.gates.Edge.{Edge}
 use Rattle.kn_aig.specs.declared.gates.Pair.{Pair}
 use Rattle.kn_aig.specs.declared.gates.AigNode.{AigNode}
 use Rattle.kn_aig.specs.declared.gates.AigNode.TheVariants as nodes
-use Rattle.kn_aig.specs.Built.{built, Extends}
+use Rattle.kn_built.specs.Built.{built, Extends}
 
 -- a value, negated where the edge is inverted
 abbrev pub flip : Bool → Bool → Bool

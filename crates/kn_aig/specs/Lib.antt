@@ -1,3 +1,2 @@
 -- The definitions of circuits.
-pub mod Built
 pub mod Circuits
