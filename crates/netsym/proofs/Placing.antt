@@ -1,60 +1,64 @@
--- Where an input stands in a valuation.
-use Rattle.std.proofs.Common.{◌≡◌, ℕ, suc, ◌+◌, ◌<◌, Bool, true, false, cond, List, [], ◌∷◌, ◌++◌, length, map, take, drop, get_or, insert, refl, sym, ap, ◌∙◌, arith, append_assoc}
-use Rattle.std.specs.Prelude.{◌||◌, ◌&&◌, nat_lt, nat_eq}
-use Rattle.std.proofs.lemmas.List.{map-append, take-append-drop, take_more}
-use Rattle.std.proofs.Math.Seq.{drop-cons, drop-length}
-use Rattle.kn_model.specs.Terms.{Valuation}
+-- An input becomes 1 where it is 0, and stays where it is not.
+use Rattle.std.proofs.Common.{◌≡◌, ◌<◌, ℕ, Bool, true, false, cond, [], ◌∷◌, refl, sym, ap, ◌∙◌, arith}
+use Rattle.std.specs.Prelude.{◌&&◌, nat_eq}
+use Rattle.kn_built.proofs.Sorted.{All-each}
+use Rattle.kn_term.specs.Terms.{Given, Valuation, listed}
+use Rattle.kn_term.specs.Valuations.{precedes, is_of, Precedes, AreEntries, with_word}
+use Rattle.kn_term.proofs.Entries.{precedes-trans, precedes-total, absent}
 use Rattle.kn_model.specs.Deciding.{put_one}
-use Rattle.netsym.specs.declared.valuation.GivenWord.{GivenWord}
-use Rattle.netsym.specs.Valuations.{given_of, one_of}
 
-abbrev pub is_after : ℕ → ℕ → GivenWord → Bool
-is_after n k g = nat_lt n g.node || nat_eq n g.node && nat_lt k g.index
+goes_behind : (n k m j : ℕ) → precedes m j n k ≡ true → precedes n k m j ≡ false
+goes_behind n k m j h = grind arith
 
-abbrev pub is_same : ℕ → ℕ → GivenWord → Bool
-is_same n k g = nat_eq n g.node && nat_eq k g.index
+other_behind : (n k m j : ℕ) → precedes m j n k ≡ true → (nat_eq n m && nat_eq k j) ≡ false
+other_behind n k m j h = grind arith
 
--- what stands before place i comes before the input
-abbrev pub IsPast : ℕ → ℕ → List GivenWord → ℕ → Type 0
-IsPast n k xs i = put_one n k (map given_of xs) ≡ map given_of (take i xs) ++ put_one n k (map given_of (drop i xs))
+not_own : (n k m j : ℕ) → precedes m j n k ≡ true → (nat_eq m n && nat_eq j k) ≡ false
+not_own n k m j h = grind arith
 
-step : (n k : ℕ) (g : GivenWord) (a : Valuation) (p q : Bool) → is_after n k g ≡ p → is_same n k g ≡ q
-    → put_one n k (given_of g ∷ a) ≡ cond p (given_of (one_of n k) ∷ (given_of g ∷ a)) (cond q (given_of g ∷ a) (given_of g ∷ put_one n k a))
-step n k g a p q e f = rw (e, f) refl
+own_stays : (n k m j : ℕ) → (nat_eq m n && nat_eq j k) ≡ true → precedes n k m j ≡ false
+own_stays n k m j h = grind arith
 
-cut : (xs : List GivenWord) (i : ℕ) (d x : GivenWord) → i < length xs → x ≡ get_or xs i d → map given_of (drop i xs) ≡ given_of x ∷ map given_of (drop (suc i) xs)
-cut xs i d x less is = ap (map given_of) (drop-cons xs i d less) ∙ ap (λ (z : GivenWord). given_of z ∷ map given_of (drop (suc i) xs)) (sym is)
+own : (n k m j : ℕ) → (nat_eq m n && nat_eq j k) ≡ true → (nat_eq n m && nat_eq k j) ≡ true
+own n k m j h = grind arith
 
-pub goes_here : (n k : ℕ) (xs : List GivenWord) (i : ℕ) (d x : GivenWord) → i < length xs → x ≡ get_or xs i d → IsPast n k xs i → is_after n k x ≡ true → put_one n k (map given_of xs) ≡ map given_of (insert xs i (one_of n k))
-goes_here n k xs i d x less is past after =
-    let rest = cut xs i d x less is in
-    past
-    ∙ ap (λ (l : Valuation). map given_of (take i xs) ++ l) (ap (put_one n k) rest ∙ (step n k x (map given_of (drop (suc i) xs)) true (is_same n k x) after refl ∙ ap (λ (l : Valuation). given_of (one_of n k) ∷ l) (sym rest)))
-    ∙ sym (map-append given_of (take i xs) (one_of n k ∷ drop i xs))
+not_zero : (w : ℕ) → 0 < w → nat_eq w 0 ≡ false
+not_zero w h = grind arith
 
-pub stands_here : (n k : ℕ) (xs : List GivenWord) (i : ℕ) (d x : GivenWord) → i < length xs → x ≡ get_or xs i d → IsPast n k xs i → is_after n k x ≡ false → is_same n k x ≡ true → put_one n k (map given_of xs) ≡ map given_of xs
-stands_here n k xs i d x less is past after same =
-    let rest = cut xs i d x less is in
-    past
-    ∙ ap (λ (l : Valuation). map given_of (take i xs) ++ l) (ap (put_one n k) rest ∙ (step n k x (map given_of (drop (suc i) xs)) false true after same ∙ sym rest))
-    ∙ sym (map-append given_of (take i xs) (drop i xs))
-    ∙ ap (map given_of) (take-append-drop i xs)
+in_front : (b : Bool) (g : Given) (x y : Valuation) → g ∷ cond b x y ≡ cond b (g ∷ x) (g ∷ y)
+in_front true g x y = refl
+in_front false g x y = refl
 
-pub goes_on : (n k : ℕ) (xs : List GivenWord) (i : ℕ) (d x : GivenWord) → i < length xs → x ≡ get_or xs i d → IsPast n k xs i → is_after n k x ≡ false → is_same n k x ≡ false → IsPast n k xs (i + 1)
-goes_on n k xs i d x less is past after same =
-    let rest = cut xs i d x less is in
-    let more = put_one n k (map given_of (drop (suc i) xs)) in
-    let next : suc i ≡ i + 1 = omega arith in
-    past
-    ∙ ap (λ (l : Valuation). map given_of (take i xs) ++ l) (ap (put_one n k) rest ∙ step n k x (map given_of (drop (suc i) xs)) false false after same)
-    ∙ sym (append_assoc (map given_of (take i xs)) (given_of x ∷ []) more)
-    ∙ ap (λ (l : Valuation). l ++ more) (sym (ap (map given_of) (take_more xs i d less ∙ ap (λ (z : GivenWord). take i xs ++ (z ∷ [])) (sym is)) ∙ map-append given_of (take i xs) (x ∷ [])))
-    ∙ ap (λ (j : ℕ). map given_of (take (i + 1) xs) ++ put_one n k (map given_of (drop j xs))) next
+by_case : (n k : ℕ) (g : Given) (a : Valuation) → AreEntries (g ∷ a) → put_one n k a ≡ cond (nat_eq (listed a n k) 0) (with_word n k 1 a) a
+    → (p : Bool) → precedes g.node g.index n k ≡ p → (q : Bool) → is_of n k g ≡ q
+    → put_one n k (g ∷ a) ≡ cond (nat_eq (listed (g ∷ a) n k) 0) (with_word n k 1 (g ∷ a)) (g ∷ a)
+by_case n k g a h more true first q is =
+    rw (goes_behind n k g.node g.index first, other_behind n k g.node g.index first, not_own n k g.node g.index first, first)
+    (ap (λ (l : Valuation). g ∷ l) more ∙ in_front (nat_eq (listed a n k) 0) g (with_word n k 1 a) a)
+by_case n k g a h more false after true is =
+    rw (own_stays n k g.node g.index is, own n k g.node g.index is, is, not_zero g.word h.0) refl
+by_case n k g a h more false after false is =
+    let first : precedes n k g.node g.index ≡ true = precedes-total g.node g.index n k after is in
+    let none : listed a n k ≡ 0 = absent n k a (All-each (Precedes g) (λ x. precedes n k x.node x.index ≡ true) (λ x p. precedes-trans n k g.node g.index x.node x.index first p) a h.1) in
+    rw (first, is, none, after) refl
 
-pub goes_last : (n k : ℕ) (xs : List GivenWord) → IsPast n k xs (length xs) → put_one n k (map given_of xs) ≡ map given_of (insert xs (length xs) (one_of n k))
-goes_last n k xs past =
-    let none : drop (length xs) xs ≡ [] = drop-length xs in
-    past
-    ∙ ap (λ (l : List GivenWord). map given_of (take (length xs) xs) ++ put_one n k (map given_of l)) none
-    ∙ sym (map-append given_of (take (length xs) xs) (one_of n k ∷ []))
-    ∙ ap (λ (l : List GivenWord). map given_of (take (length xs) xs ++ (one_of n k ∷ l))) (sym none)
+pub put_one-is : (n k : ℕ) (a : Valuation) → AreEntries a → put_one n k a ≡ cond (nat_eq (listed a n k) 0) (with_word n k 1 a) a
+put_one-is n k [] h = refl
+put_one-is n k (g ∷ a) h = by_case n k g a h (put_one-is n k a h.2) (precedes g.node g.index n k) refl (is_of n k g) refl
+
+by_word : (n k w : ℕ) (a : Valuation) (b : Bool) → AreEntries a → w ≡ listed a n k → nat_eq w 0 ≡ b → cond b (with_word n k 1 a) a ≡ put_one n k a
+by_word n k w a b h is zero = sym (put_one-is n k a h ∙ ap (λ (q : Bool). cond q (with_word n k 1 a) a) (ap (λ (x : ℕ). nat_eq x 0) (sym is) ∙ zero))
+
+is_zero : (w : ℕ) → w ≡ 0 → nat_eq w 0 ≡ true
+is_zero w h = grind arith
+
+is_not : (w : ℕ) → (w ≡ 0 → ⊥) → nat_eq w 0 ≡ false
+is_not w h = grind arith
+
+-- an input that is 0 is given the word 1
+pub put_where_zero : (n k w : ℕ) (a : Valuation) → AreEntries a → w ≡ listed a n k → w ≡ 0 → with_word n k 1 a ≡ put_one n k a
+put_where_zero n k w a h is zero = by_word n k w a true h is (is_zero w zero)
+
+-- an input that is not 0 stays
+pub put_where_not : (n k w : ℕ) (a : Valuation) → AreEntries a → w ≡ listed a n k → (w ≡ 0 → ⊥) → a ≡ put_one n k a
+put_where_not n k w a h is other = by_word n k w a false h is (is_not w other)

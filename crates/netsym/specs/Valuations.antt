@@ -1,15 +1,8 @@
--- What valuations of the program are in the definitions.
-use Rattle.std.specs.Prelude.{ℕ, [], ◌∷◌}
-use Rattle.kn_model.specs.Terms.{Given, Valuation}
+-- The inputs that literals force to be 1, on top of others.
+use Rattle.std.specs.Prelude.{[], ◌∷◌}
+use Rattle.kn_model.specs.Terms.{Valuation}
 use Rattle.kn_model.specs.Conditions.{Condition}
 use Rattle.kn_model.specs.Deciding.{forced_by}
-use Rattle.netsym.specs.declared.valuation.GivenWord.{GivenWord}
-
-abbrev pub given_of : GivenWord → Given
-given_of g = record { node = g.node; index = g.index; word = g.word }
-
-abbrev pub one_of : ℕ → ℕ → GivenWord
-one_of n k = record { node = n; index = k; word = 1 }
 
 -- a valuation with the inputs that these literals force to be 1
 abbrev pub forced_over : Condition → Valuation → Valuation

@@ -1,7 +1,7 @@
 //! Reports: what an exploration found.
 
 use crate::explore::Outcome;
-use crate::valuation::Valuation;
+use kn_term::Valuation;
 use kn_trace::Trace;
 use std::alloc::Global;
 use std::marker::Model;

@@ -1,14 +1,13 @@
 //! The text of a report.
 
-ghost use Rattle.std.specs.Prelude.{◌≡◌, ◌+◌, ◌++◌, [], ◌∷◌, IfOk, OnOk, codes, decimal, string_bytes, map, flat_map, Some, count_by, length, ◌≤◌};
+ghost use Rattle.std.specs.Prelude.{◌≡◌, ◌+◌, ◌++◌, [], ◌∷◌, IfOk, OnOk, codes, decimal, string_bytes, drop, flat_map, Some, count_by, length, ◌≤◌};
 ghost use Rattle.kn_model.specs.Reports.{At};
-ghost use Rattle.netsym.specs.Valuations.{given_of};
 ghost use Rattle.netsym.specs.ReportViews.{standing_of, reach_view};
 ghost use Rattle.netsym.specs.Texts.{input_text, inputs_text, standing_text, state_text, column_text, dstate_text, reach_text, failure_text, head_text, end_text, reached_in, open_in, is_at, is_undecided, is_open, numbered_from, report_text};
 
 use crate::explore::{FailKind, Outcome};
 use crate::report::{Columns, FailureLine, Mapping, Pick, Reached, Report, Standing, StateLine};
-use crate::valuation::{GivenWord, Valuation};
+use kn_term::Valuation;
 use std::alloc::{AllocError, Global};
 use std::fmt;
 
@@ -56,39 +55,27 @@ impl fmt::Display for Outcome {
     }
 }
 
-impl fmt::Display for GivenWord {
-    ghost use Rattle.netsym.specs.Valuations.{given_of};
-    ghost use Rattle.netsym.specs.Texts.{input_text};
-
-    ghost output = { λ g. Some (input_text (given_of g)) };
-
-    fn fmt<W: fmt::Write>(&self, f: &mut fmt::Formatter<W>) -> fmt::Result {
-        let node = self.node;
-        let index = self.index;
-        let word = self.word;
-        write!(f, "{node}.{index}={word}")
-    }
-}
-
-/// Appends a blank and an entry for each of these.
-fn put_more_entries(text: &mut String, entries: &[GivenWord]) -> Result<(), AllocError>
-    ensures { OnOk result (string_bytes text.new ≡ string_bytes text.old ++ flat_map (λ g. codes " " ++ input_text (given_of g)) entries.now) }
+/// Appends a blank and an entry, for each entry but the first.
+fn put_more_inputs(text: &mut String, inputs: &Valuation) -> Result<(), AllocError>
+    ensures { OnOk result (string_bytes text.new ≡ string_bytes text.old ++ flat_map (λ g. codes " " ++ input_text g) (drop 1 inputs.now)) }
 {
-    for entry in entries {
-        write!(text, " {entry}")?;
+    let mut place = 1;
+    while let Some((node, index, word)) = inputs.at(place) {
+        write!(text, " {node}.{index}={word}")?;
+        place += 1;
     }
     Ok(())
 }
 
 /// Appends the inputs of a valuation, or `-` where it has none.
-fn put_entries(text: &mut String, entries: &[GivenWord]) -> Result<(), AllocError>
-    ensures { OnOk result (string_bytes text.new ≡ string_bytes text.old ++ inputs_text (map given_of entries.now)) }
+fn put_inputs(text: &mut String, inputs: &Valuation) -> Result<(), AllocError>
+    ensures { OnOk result (string_bytes text.new ≡ string_bytes text.old ++ inputs_text inputs.now) }
 {
-    match entries.split_first() {
+    match inputs.at(0) {
         None => text.push_str("-"),
-        Some((first, others)) => {
-            write!(text, "{first}")?;
-            put_more_entries(text, others)
+        Some((node, index, word)) => {
+            write!(text, "{node}.{index}={word}")?;
+            put_more_inputs(text, inputs)
         }
     }
 }
@@ -99,7 +86,7 @@ fn put_standing(text: &mut String, standing: &Standing) -> Result<(), AllocError
     match standing {
         Standing::Inputs(inputs) => {
             text.push_str("inputs ")?;
-            put_entries(text, inputs.entries())
+            put_inputs(text, inputs)
         }
         Standing::Open { leaves } => write!(text, "open {leaves}"),
     }
@@ -184,7 +171,7 @@ fn put_place(
     write!(text, "reached dstate {dstate} pick")?;
     put_numbers(text, pick.states())?;
     text.push_str(" inputs ")?;
-    put_entries(text, inputs.entries())
+    put_inputs(text, inputs)
 }
 
 fn put_reach(text: &mut String, reach: &Reached) -> Result<(), AllocError>
