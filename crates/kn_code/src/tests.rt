@@ -11,6 +11,8 @@ const HALT_AT_BOOT: [u8; 30] = [
 /// The row of `halt`.
 const HALT: [u8; 8] = [0x24, 0, 0, 0, 0, 0, 0, 0];
 
+fn is_shared<T: Send + Sync>() {}
+
 fn halt_at_boot(alloc: Global) -> Result<Program, AllocError> {
     let bytes = HALT_AT_BOOT;
     match decode(alloc, &bytes) {
@@ -61,7 +63,9 @@ fn halt_reads_and_is_spelled(rt: HostRuntime) -> Result<(), Fail> {
     program.validity();
     reads_back();
     one_spelling();
-    shared();
+    is_shared::<Instr>();
+    is_shared::<Program>();
+    is_shared::<CodeFault>();
     Ok(())
 }
 

@@ -3,11 +3,9 @@
 
 mod packet;
 mod queue;
-mod sharing;
 
 pub use packet::{Event, Packet, Stamp};
 pub use queue::Queue;
-pub use sharing::shared;
 pub use std::alloc::AllocError as Memory;
 
 #[cfg(test)]

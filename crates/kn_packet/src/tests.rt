@@ -6,6 +6,8 @@ use kn_trace::Trace;
 use smallvec::SmallVec;
 use std::test::Fail;
 
+fn is_shared<T: Send + Sync>() {}
+
 /// A packet with this key, and all else the same.
 fn packet(rt: &HostRuntime, arrival: u32, from: u32, seq: u32, copy: u8) -> Result<Packet, Fail> {
     let mut terms = Terms::new(rt.alloc());
@@ -79,6 +81,9 @@ fn copies_are_equal(rt: HostRuntime) -> Result<(), Fail> {
         copy: 0,
     };
     assert!(rt; mail == mail && mail != Event::Boot && Event::Timer { number: 1 } != Event::Reboot);
-    shared();
+    is_shared::<Stamp>();
+    is_shared::<Packet>();
+    is_shared::<Event>();
+    is_shared::<Queue>();
     Ok(())
 }

@@ -2,10 +2,8 @@
 #![tactic(auto)]
 
 mod net;
-mod sharing;
 
 pub use net::{Limits, Link, Net, NodePlan};
-pub use sharing::shared;
 pub use std::alloc::AllocError as Memory;
 
 #[cfg(test)]

@@ -13,6 +13,8 @@ const HALT_AT_BOOT: [u8; 30] = [
     0xff, 0xff, 0xff, 0xff, 0xff, 0xff, 0x24, 0x00, 0x00, 0x00, 0x00, 0x00, 0x00, 0x00,
 ];
 
+fn is_shared<T: Send + Sync>() {}
+
 fn halt_at_boot(alloc: Global) -> Result<Program, AllocError> {
     let bytes = HALT_AT_BOOT;
     match decode(alloc, &bytes) {
@@ -97,6 +99,9 @@ fn copies_are_equal(rt: HostRuntime) -> Result<(), Fail> {
     let lossy = plan(rt.alloc(), 15)?;
     assert!(rt; lossy.copy()? == lossy);
     assert!(rt; plan(rt.alloc(), 0)? != lossy);
-    shared();
+    is_shared::<NodePlan>();
+    is_shared::<Link>();
+    is_shared::<Limits>();
+    is_shared::<Net>();
     Ok(())
 }

@@ -2,12 +2,10 @@
 #![tactic(auto)]
 
 mod node;
-mod sharing;
 mod terms;
 mod valuation;
 
 pub use node::{Literal, Node, Ref};
-pub use sharing::shared;
 pub use std::alloc::AllocError as Memory;
 pub use terms::Terms;
 pub use valuation::{Valuation, one_list};

@@ -3,6 +3,8 @@
 use super::*;
 use std::test::Fail;
 
+fn is_shared<T: Send + Sync>() {}
+
 #[tactic(auto, using(crate::proofs::Kept::kept))]
 #[test]
 fn gives_terms_their_words(rt: HostRuntime) -> Result<(), Fail> {
@@ -59,6 +61,10 @@ fn literals_name_terms(rt: HostRuntime) -> Result<(), Fail> {
         truth: true,
     };
     assert!(rt; literal.term.index == 0 && literal.truth);
-    shared();
+    is_shared::<Ref>();
+    is_shared::<Literal>();
+    is_shared::<Node>();
+    is_shared::<Terms>();
+    is_shared::<Valuation>();
     Ok(())
 }
