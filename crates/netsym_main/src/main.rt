@@ -1,26 +1,26 @@
 //! The program netsym: the real words, standard input and standard output for the library's top call.
 #![tactic(auto)]
 
-use kn_io::{StdSink, StdSource};
-use netsym::run_alone;
+use kn_io::{Sink, StdSink, StdSource, write_all};
+use netsym::{Status, run_alone};
 use std::alloc::{AllocError, Global};
 use std::env;
-use std::io::{Error, ErrorKind};
+use std::io::ErrorKind;
 use std::process::ExitCode;
 
-/// The status where the system refuses the words, as where one is not UTF-8.
-const NO_WORDS: u8 = 9;
-
-/// The status where there is no memory for the words.
-const NO_MEMORY: u8 = 6;
-
-/// The status where the words can't be had.
-fn status_without_words(error: &Error) -> u8 {
-    if error.kind() == ErrorKind::OutOfMemory {
-        NO_MEMORY
-    } else {
-        NO_WORDS
+/// The words after the program's name. Where one is not UTF-8 there are none, and so no command line. Err is want of
+/// memory.
+fn texts_of(rt: &HostRuntime) -> Result<Vec<String>, AllocError> {
+    let mut texts = Vec::new(rt.alloc());
+    let args = match env::args(rt) {
+        Ok(args) => args,
+        Err(error) if error.kind() == ErrorKind::OutOfMemory => return Err(AllocError),
+        Err(_) => return Ok(texts),
+    };
+    for arg in args.skip(1) {
+        texts.push(arg)?;
     }
+    Ok(texts)
 }
 
 /// The words as texts that the top call takes.
@@ -32,24 +32,24 @@ fn word_slices(alloc: Global, texts: &[String]) -> Result<Vec<&str>, AllocError>
     Ok(words)
 }
 
-/// Calls the library with the words after the program's name, and ends with its status. It prints nothing by itself.
+/// Says that memory for the words was wanting. The answer is the status of that, or of a write fault.
+fn without_words<K: Sink>(sink: &mut K) -> Status {
+    match write_all(sink, b"netsym: out of memory\n") {
+        Ok(()) => Status::Memory,
+        Err(_) => Status::WriteFault,
+    }
+}
+
+/// Calls the library with the words after the program's name, and ends with its status.
 fn main(rt: HostRuntime) -> ExitCode {
     let alloc = rt.alloc();
-    let args = match env::args(&rt) {
-        Ok(args) => args,
-        Err(error) => return ExitCode::from(status_without_words(&error)),
-    };
-    let mut texts = Vec::new(alloc);
-    for arg in args.skip(1) {
-        match texts.push(arg) {
-            Ok(()) => {}
-            Err(_) => return ExitCode::from(NO_MEMORY),
-        }
-    }
-    let Ok(words) = word_slices(alloc, &texts) else {
-        return ExitCode::from(NO_MEMORY);
-    };
     let mut source = StdSource::new(rt.stdin());
     let mut sink = StdSink::new(rt.stdout());
+    let Ok(texts) = texts_of(&rt) else {
+        return ExitCode::from(without_words(&mut sink).code());
+    };
+    let Ok(words) = word_slices(alloc, &texts) else {
+        return ExitCode::from(without_words(&mut sink).code());
+    };
     ExitCode::from(run_alone(alloc, &words, &mut source, &mut sink).code())
 }
