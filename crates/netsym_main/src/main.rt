@@ -1,6 +1,12 @@
 //! The program netsym: the real words, standard input and standard output for the library's top call.
 #![tactic(auto)]
 
+ghost use Rattle.std.specs.Prelude.{◌≡◌, ◌⊎◌, IfOk, map, string_bytes};
+ghost use Rattle.std.specs.Io.KnownBytes.{Appends};
+ghost use Rattle.kn_io.specs.Causes.{Rose};
+ghost use Rattle.netsym.specs.Runs.{memory_line, words_of};
+ghost use Rattle.netsym.specs.declared.status.Status.TheVariants as statuses;
+
 use kn_io::{Sink, StdSink, StdSource, write_all};
 use netsym::{Status, run_alone};
 use std::alloc::{AllocError, Global};
@@ -24,7 +30,9 @@ fn texts_of(rt: &HostRuntime) -> Result<Vec<String>, AllocError> {
 }
 
 /// The words as texts that the top call takes.
-fn word_slices(alloc: Global, texts: &[String]) -> Result<Vec<&str>, AllocError> {
+fn word_slices(alloc: Global, texts: &[String]) -> Result<Vec<&str>, AllocError>
+    ensures { IfOk result (λ v. words_of v.items ≡ map string_bytes texts.now) }
+{
     let mut words = Vec::new(alloc);
     for text in texts {
         words.push(text.as_str())?;
@@ -33,7 +41,11 @@ fn word_slices(alloc: Global, texts: &[String]) -> Result<Vec<&str>, AllocError>
 }
 
 /// Says that memory for the words was wanting. The answer is the status of that, or of a write fault.
-fn without_words<K: Sink>(sink: &mut K) -> Status {
+fn without_words<K: Sink>(sink: &mut K) -> Status
+    ensures status { (result ≡ statuses.Memory) ⊎ (result ≡ statuses.WriteFault) }
+    ensures whole { result ≡ statuses.Memory → Appends (K.taken sink.old) (K.taken sink.new) memory_line }
+    ensures cause { result ≡ statuses.WriteFault → Rose (K.faults sink.old) (K.faults sink.new) }
+{
     match write_all(sink, b"netsym: out of memory\n") {
         Ok(()) => Status::Memory,
         Err(_) => Status::WriteFault,
