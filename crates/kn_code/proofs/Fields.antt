@@ -5,14 +5,14 @@ use Rattle.std.specs.Int.{w16, to_be_bytes, from_be_bytes}
 use Rattle.std.proofs.lemmas.Bool.{eqb-true, eq-eqb, ltb-true, lt-ltb, ne_eqb}
 use Rattle.std.proofs.lemmas.Nat.{be_bytes_2, from_be_bytes-to_be_bytes_2}
 use Rattle.kn_code.specs.declared.program.Instr.{Instr}
-use Rattle.kn_code.specs.declared.program.Instr.TheVariants.{Const, Brz, Input, Assert, Ret, Halt}
 use Rattle.kn_code.specs.declared.row.Row.{Row}
 use Rattle.kn_code.specs.declared.row.RowFault.{RowFault}
 use Rattle.kn_code.specs.declared.row.RowFault.TheVariants as RowFaults
 use Rattle.kn_code.specs.Code.{IsInstr, Ends, Stands, Names}
 use Rattle.kn_code.specs.Rows.{the_row, row_of_lem, row_bytes, entry_bytes, instr_bytes}
-use Rattle.kn_code.specs.Decoding.{checked_lem, is_reg, instr_of_lem, row_at_lem, entry_at_lem, names, handled, handler_at, instr_placed, instr_at}
+use Rattle.kn_code.specs.Decoding.{by_opcode_lem, is_in_range_lem, may_stand_lem, is_same_row, checked_lem, tested, instr_of_lem, row_at_lem, entry_at_lem, names, handled, handler_at, instr_placed, instr_at}
 use Rattle.kn_code.proofs.Readings.{IsBytes, ReadsOne}
+use Rattle.kn_code.proofs.Instrs.{by_opcode_again, words_fit, in_range, is_instr, may_stand, ends}
 
 pub chosen : {A : Type 0} (b : Bool) (x y z : A) → cond b x y ≡ z → ((b ≡ true) × (x ≡ z)) ⊎ ((b ≡ false) × (y ≡ z))
 chosen true x y z e = inl (refl, e)
@@ -91,105 +91,47 @@ checked_ok true true i j e = (refl, refl, ok_inj i j (Ok i) refl e)
 checked_ok true false i j e = absurd cc
 checked_ok false target i j e = absurd cc
 
-row_is : (r : Row) (code a b c p q : ℕ) → r.code ≡ code → r.a ≡ a → r.b ≡ b → r.c ≡ c → r.p ≡ p → r.q ≡ q → r ≡ the_row code a b c p q
-row_is r code a b c p q e1 e2 e3 e4 e5 e6 =
-    ap (λ (x : ℕ). the_row x r.a r.b r.c r.p r.q) e1
-    ∙ ap (λ (x : ℕ). the_row code x r.b r.c r.p r.q) e2
-    ∙ ap (λ (x : ℕ). the_row code a x r.c r.p r.q) e3
-    ∙ ap (λ (x : ℕ). the_row code a b x r.p r.q) e4
-    ∙ ap (λ (x : ℕ). the_row code a b c x r.q) e5
-    ∙ ap (λ (x : ℕ). the_row code a b c p x) e6
+same_row : (r s : Row) → is_same_row r s ≡ true → r ≡ s
+same_row r s e =
+    let a = both_true (eqb r.code s.code) (eqb r.a s.a && (eqb r.b s.b && (eqb r.c s.c && (eqb r.p s.p && eqb r.q s.q)))) e in
+    let b = both_true (eqb r.a s.a) (eqb r.b s.b && (eqb r.c s.c && (eqb r.p s.p && eqb r.q s.q))) a.1 in
+    let c = both_true (eqb r.b s.b) (eqb r.c s.c && (eqb r.p s.p && eqb r.q s.q)) b.1 in
+    let d = both_true (eqb r.c s.c) (eqb r.p s.p && eqb r.q s.q) c.1 in
+    let f = both_true (eqb r.p s.p) (eqb r.q s.q) d.1 in
+    ap (λ (x : ℕ). the_row x r.a r.b r.c r.p r.q) (eqb-true r.code s.code a.0)
+    ∙ ap (λ (x : ℕ). the_row s.code x r.b r.c r.p r.q) (eqb-true r.a s.a b.0)
+    ∙ ap (λ (x : ℕ). the_row s.code s.a x r.c r.p r.q) (eqb-true r.b s.b c.0)
+    ∙ ap (λ (x : ℕ). the_row s.code s.a s.b x r.p r.q) (eqb-true r.c s.c d.0)
+    ∙ ap (λ (x : ℕ). the_row s.code s.a s.b s.c x r.q) (eqb-true r.p s.p f.0)
+    ∙ ap (λ (x : ℕ). the_row s.code s.a s.b s.c s.p x) (eqb-true r.q s.q f.1)
 
-regs : (r : Row) → is_reg r ≡ true → (r.a < 16) × (r.b ≡ 0) × (r.c ≡ 0)
-regs r e =
-    let x = both_true (ltb r.a 16 && eqb r.b 0) (eqb r.c 0) e in
-    let y = both_true (ltb r.a 16) (eqb r.b 0) x.0 in
-    (ltb-true r.a 16 y.0, eqb-true r.b 0 y.1, eqb-true r.c 0 x.1)
+like_itself : (r : Row) → is_same_row r r ≡ true
+like_itself r = rw (eq-eqb r.code r.code refl, eq-eqb r.a r.a refl, eq-eqb r.b r.b refl, eq-eqb r.c r.c refl, eq-eqb r.p r.p refl, eq-eqb r.q r.q refl) refl
 
 abbrev IsReadAs : ℕ → Bool → Row → Instr → Type 0
 IsReadAs count last r i = (r ≡ row_of_lem i) × (r.p < 2 ^ 16 → IsInstr count i) × (last ≡ true → Ends i)
 
-never_last : {P : Type 0} (last : Bool) → not last ≡ true → last ≡ true → P
-never_last true e h = absurd cc
-never_last false e h = absurd cc
+-- the tests that an instruction has passed
+pub fields_passed : (r : Row) (i : Instr) → (is_same_row (row_of_lem i) r && is_in_range_lem i) ≡ true → (row_of_lem i ≡ r) × (is_in_range_lem i ≡ true)
+fields_passed r i e =
+    let h = both_true (is_same_row (row_of_lem i) r) (is_in_range_lem i) e in
+    (same_row (row_of_lem i) r h.0, h.1)
 
--- each row in turn: the opcode, then the fields, then the target
-read_const : (count : ℕ) (last : Bool) (r : Row) (i : Instr) → eqb r.code 0x01 ≡ true → checked_lem (is_reg r && eqb r.q 0) (not last) (Const r.a r.p) ≡ Ok i → IsReadAs count last r i
-read_const count last r i code e =
-    let c = checked_ok (is_reg r && eqb r.q 0) (not last) (Const r.a r.p) i e in
-    let f = both_true (is_reg r) (eqb r.q 0) c.0 in
-    let g = regs r f.0 in
-    let here : IsReadAs count last r (Const r.a r.p) = (row_is r 0x01 r.a 0 0 r.p 0 (eqb-true _ _ code) refl g.1 g.2 refl (eqb-true _ _ f.1), λ fits. (g.0, fits), never_last last c.1) in
+tested_ok : (count : ℕ) (last : Bool) (r : Row) (o : Option Instr) (i : Instr) → tested count last r o ≡ Ok i → IsReadAs count last r i
+tested_ok count last r None i e = absurd cc
+tested_ok count last r (Some j) i e =
+    let c = checked_ok (is_same_row (row_of_lem j) r && is_in_range_lem j) (may_stand_lem count last j) j i e in
+    let f = fields_passed r j c.0 in
+    let here : IsReadAs count last r j = (sym f.0, λ fits. is_instr count last j (subst (λ (s : Row). s.p < 2 ^ 16) (sym f.0) fits) f.1 c.1, ends count last j c.1) in
     subst (IsReadAs count last r) c.2 here
-
-read_brz : (count : ℕ) (last : Bool) (r : Row) (i : Instr) → eqb r.code 0x09 ≡ true → checked_lem (is_reg r && eqb r.q 0) (ltb r.p count && not last) (Brz r.a r.p) ≡ Ok i → IsReadAs count last r i
-read_brz count last r i code e =
-    let c = checked_ok (is_reg r && eqb r.q 0) (ltb r.p count && not last) (Brz r.a r.p) i e in
-    let f = both_true (is_reg r) (eqb r.q 0) c.0 in
-    let t = both_true (ltb r.p count) (not last) c.1 in
-    let g = regs r f.0 in
-    let here : IsReadAs count last r (Brz r.a r.p) = (row_is r 0x09 r.a 0 0 r.p 0 (eqb-true _ _ code) refl g.1 g.2 refl (eqb-true _ _ f.1), λ fits. (g.0, ltb-true r.p count t.0), never_last last t.1) in
-    subst (IsReadAs count last r) c.2 here
-
-read_input : (count : ℕ) (last : Bool) (r : Row) (i : Instr) → eqb r.code 0x0a ≡ true → checked_lem (is_reg r && eqb r.p 1 && eqb r.q 0) (not last) (Input r.a r.p) ≡ Ok i → IsReadAs count last r i
-read_input count last r i code e =
-    let c = checked_ok (is_reg r && eqb r.p 1 && eqb r.q 0) (not last) (Input r.a r.p) i e in
-    let f = both_true (is_reg r && eqb r.p 1) (eqb r.q 0) c.0 in
-    let w = both_true (is_reg r) (eqb r.p 1) f.0 in
-    let g = regs r w.0 in
-    let here : IsReadAs count last r (Input r.a r.p) = (row_is r 0x0a r.a 0 0 r.p 0 (eqb-true _ _ code) refl g.1 g.2 refl (eqb-true _ _ f.1), λ fits. (g.0, eqb-true _ _ w.1), never_last last c.1) in
-    subst (IsReadAs count last r) c.2 here
-
-read_assert : (count : ℕ) (last : Bool) (r : Row) (i : Instr) → eqb r.code 0x20 ≡ true → checked_lem (is_reg r && eqb r.p 0 && eqb r.q 0) (not last) (Assert r.a) ≡ Ok i → IsReadAs count last r i
-read_assert count last r i code e =
-    let c = checked_ok (is_reg r && eqb r.p 0 && eqb r.q 0) (not last) (Assert r.a) i e in
-    let f = both_true (is_reg r && eqb r.p 0) (eqb r.q 0) c.0 in
-    let w = both_true (is_reg r) (eqb r.p 0) f.0 in
-    let g = regs r w.0 in
-    let here : IsReadAs count last r (Assert r.a) = (row_is r 0x20 r.a 0 0 0 0 (eqb-true _ _ code) refl g.1 g.2 (eqb-true _ _ w.1) (eqb-true _ _ f.1), λ fits. g.0, never_last last c.1) in
-    subst (IsReadAs count last r) c.2 here
-
--- a row without fields
-read_bare : (count code : ℕ) (last : Bool) (r : Row) (bare i : Instr) → row_of_lem bare ≡ the_row code 0 0 0 0 0 → IsInstr count bare → Ends bare → eqb r.code code ≡ true → checked_lem (is_reg r && eqb r.a 0 && eqb r.p 0 && eqb r.q 0) true bare ≡ Ok i → IsReadAs count last r i
-read_bare count code last r bare i row-is fine ends e0 e =
-    let c = checked_ok (is_reg r && eqb r.a 0 && eqb r.p 0 && eqb r.q 0) true bare i e in
-    let f = both_true (is_reg r && eqb r.a 0 && eqb r.p 0) (eqb r.q 0) c.0 in
-    let w = both_true (is_reg r && eqb r.a 0) (eqb r.p 0) f.0 in
-    let v = both_true (is_reg r) (eqb r.a 0) w.0 in
-    let g = regs r v.0 in
-    let here : IsReadAs count last r bare = (row_is r code 0 0 0 0 0 (eqb-true _ _ e0) (eqb-true _ _ v.1) g.1 g.2 (eqb-true _ _ w.1) (eqb-true _ _ f.1) ∙ sym row-is, λ fits. fine, λ h. ends) in
-    subst (IsReadAs count last r) c.2 here
-
--- one opcode of the chain: its own row, or the rows that follow
-pub or_row : {P : Type 0} {is_mine : Bool} {here others answer : Result Instr RowFault} → (is_mine ≡ true → here ≡ answer → P) → (others ≡ answer → P) → cond is_mine here others ≡ answer → P
-or_row {is_mine = true} mine theirs e = mine refl e
-or_row {is_mine = false} mine theirs e = theirs e
-
-no_row : {P : Type 0} (i : Instr) → Err RowFaults.Opcode ≡ Ok i → P
-no_row i e = absurd cc
 
 pub instr_read : (count : ℕ) (last : Bool) (r : Row) (i : Instr) → instr_of_lem count last r ≡ Ok i → IsReadAs count last r i
-instr_read count last r i =
-    or_row (read_const count last r i)
-    (or_row (read_brz count last r i)
-    (or_row (read_input count last r i)
-    (or_row (read_assert count last r i)
-    (or_row (read_bare count 0x23 last r Ret i refl tt tt)
-    (or_row (read_bare count 0x24 last r Halt i refl tt tt)
-    (no_row i))))))
+instr_read count last r i = tested_ok count last r (by_opcode_lem r) i
 
 pub instr_again : (count : ℕ) (last : Bool) (i : Instr) → IsInstr count i → (last ≡ true → Ends i) → instr_of_lem count last (row_of_lem i) ≡ Ok i
-instr_again count true (Const a n) h ends = absurd (ends refl)
-instr_again count false (Const a n) h ends = rw (lt-ltb a 16 h.0) refl
-instr_again count true (Brz a to) h ends = absurd (ends refl)
-instr_again count false (Brz a to) h ends = rw (lt-ltb a 16 h.0, lt-ltb to count h.1) refl
-instr_again count true (Input a w) h ends = absurd (ends refl)
-instr_again count false (Input a w) h ends = rw (lt-ltb a 16 h.0, h.1) refl
-instr_again count true (Assert a) h ends = absurd (ends refl)
-instr_again count false (Assert a) h ends = rw (lt-ltb a 16 h) refl
-instr_again count last Ret h ends = refl
-instr_again count last Halt h ends = refl
-instr_again count last other h ends = absurd h
+instr_again count last i h end =
+    ap (tested count last (row_of_lem i)) (by_opcode_again count i h)
+    ∙ rw (like_itself (row_of_lem i), in_range count i h, may_stand count last i h end) refl
 
 cells_eight : (bytes : List ℕ) → 8 ≤ length bytes → bytes ≡ get_or bytes 0 0 ∷ get_or bytes 1 0 ∷ get_or bytes 2 0 ∷ get_or bytes 3 0 ∷ get_or bytes 4 0 ∷ get_or bytes 5 0 ∷ get_or bytes 6 0 ∷ get_or bytes 7 0 ∷ drop 8 bytes
 cells_eight (x0 ∷ x1 ∷ x2 ∷ x3 ∷ x4 ∷ x5 ∷ x6 ∷ x7 ∷ bytes) h = refl
@@ -218,15 +160,6 @@ row_back r rest p q =
     ap (λ (w : ℕ). record { code = r.code; a = r.a; b = r.b; c = r.c; p = w; q = from_be_bytes w16 (to_be_bytes w16 r.q) }) (from_be_bytes-to_be_bytes_2 r.p p)
     ∙ ap (λ (w : ℕ). record { code = r.code; a = r.a; b = r.b; c = r.c; p = r.p; q = w }) (from_be_bytes-to_be_bytes_2 r.q q)
 
-p_fits : (count : ℕ) (i : Instr) → count ≤ 4096 → IsInstr count i → ((row_of_lem i).p < 2 ^ 16) × ((row_of_lem i).q < 2 ^ 16)
-p_fits count (Const a n) small h = (h.1, omega arith)
-p_fits count (Brz a to) small h = (omega (arith, small, h.1), omega arith)
-p_fits count (Input a w) small h = (omega (arith, h.1), omega arith)
-p_fits count (Assert a) small h = (omega arith, omega arith)
-p_fits count Ret small h = (omega arith, omega arith)
-p_fits count Halt small h = (omega arith, omega arith)
-p_fits count other small h = absurd h
-
 pub placed_ok : (place : ℕ) (r : Result Instr RowFault) (x : Instr) → instr_placed place r ≡ Ok x → r ≡ Ok x
 placed_ok place (Ok y) x e = ap (λ (o : Instr). Ok o) (ok_inj y x (Ok y) refl e)
 placed_ok place (Err n) x e = absurd cc
@@ -240,7 +173,7 @@ instr_reads count small = record {
         (h.1 (word_fits (get_or bytes 4 0) (get_or bytes 5 0) (fits 4) (fits 5)), λ none. h.2 (eq-eqb left 0 none)),
       );
   again = λ left place x rest h.
-      let pq = p_fits count x small h.0 in
+      let pq = words_fit count x small h.0 in
       ap (λ (r : Row). instr_placed place (instr_of_lem count (eqb left 0) r)) (row_back (row_of_lem x) rest pq.0 pq.1) ∙ ap (instr_placed place) (instr_again count (eqb left 0) x h.0 (λ t. h.1 (eqb-true left 0 t)));
   wide = λ x. refl;
 }

@@ -1,6 +1,7 @@
 pub mod Items
 pub mod Valid
 pub mod Readings
+pub mod Instrs
 pub mod Fields
 pub mod Whole
 pub mod Equal

@@ -5,21 +5,18 @@ use Rattle.std.specs.Int.{w16, from_be_bytes}
 use Rattle.std.proofs.lemmas.Bool.{eqb-true, eq-eqb, lt-ltb, ltb-true, ltb-false}
 use Rattle.std.proofs.lemmas.List.{get_or-drop}
 use Rattle.kn_code.specs.declared.program.Instr.{Instr}
-use Rattle.kn_code.specs.declared.program.Instr.TheVariants.{Const, Brz, Input, Assert, Ret, Halt}
 use Rattle.kn_code.specs.declared.row.Row.{Row}
 use Rattle.kn_code.specs.declared.row.RowFault.{RowFault}
 use Rattle.kn_code.specs.declared.row.RowFault.TheVariants as RowFaults
 use Rattle.kn_code.specs.declared.decoding.CodeFault.{CodeFault}
 use Rattle.kn_code.specs.declared.decoding.CodeFault.TheVariants as faults
 use Rattle.kn_code.specs.Code.{IsInstr}
-use Rattle.kn_code.specs.Rows.{row_of_lem}
-use Rattle.kn_code.specs.Decoding.{checked_lem, is_reg, instr_of_lem, row_at_lem, names, handled, handler_at, instr_placed, instr_at}
+use Rattle.kn_code.specs.Rows.{the_row, row_of_lem}
+use Rattle.kn_code.specs.Decoding.{by_opcode_lem, is_in_range_lem, checked_lem, tested, instr_of_lem, row_at_lem, names, handled, handler_at, instr_placed, instr_at}
 use Rattle.kn_code.specs.Faults.{word_at, row_here, IsWrongEntry, HasWrongOpcode, HasWrongField, HasWrongTarget, HasInstr}
 use Rattle.kn_code.proofs.Readings.{IsBytes}
-use Rattle.kn_code.proofs.Fields.{placed_ok, or_row, instr_read, instr_again}
-
-pub never : {P : Type 0} → false ≡ true → P
-never e = absurd cc
+use Rattle.kn_code.proofs.Instrs.{never, by_opcode_again, is_instr, stands_elsewhere, unknown_again, known}
+use Rattle.kn_code.proofs.Fields.{placed_ok, fields_passed, instr_read, instr_again}
 
 pub differ : (a b : ℕ) → eqb a b ≡ false → a ≢ b
 differ a b e = λ same. never (sym e ∙ eq-eqb a b same)
@@ -60,41 +57,25 @@ entry_wrong count place word f e = go (eqb word 65535) (ltb word count) refl ref
         (err_is (faults.Handler place) f bad, (differ word 65535 is, ltb-false word count low))
 
 -- ---- a row
--- One opcode of two chains: both answer by their own rows, or both by the rows that follow.
-in_row : (P : Result Instr RowFault → Type 0) (code mine yours : ℕ) {here others here' others' : Result Instr RowFault} {f : RowFault} → yours ≡ mine → (here ≡ Err f → P here') → (others ≡ Err f → P others') → cond (eqb mine code) here others ≡ Err f → P (cond (eqb yours code) here' others')
-in_row P code mine yours {here = here} {others = others} {here' = here'} {others' = others'} {f = f} same own theirs e =
-    subst (λ (n : ℕ). P (cond (eqb n code) here' others')) (sym same) (go (eqb mine code) e)
-  where
-    go : (b : Bool) → cond b here others ≡ Err f → P (cond b here' others')
-    go true h = own h
-    go false h = theirs h
-
--- a row without fields has only its opcode
-abbrev is_bare : Row → Bool
-is_bare r = is_reg r && eqb r.a 0 && eqb r.p 0 && eqb r.q 0
-
-abbrev Fails : RowFault → Result Instr RowFault → Type 0
-Fails f result = result ≡ Err f
-
 -- an opcode that is known is not refused for it
-known : {P : Type 0} (fields target : Bool) (i : Instr) → checked_lem fields target i ≡ Err RowFaults.Opcode → P
-known true true i e = absurd cc
-known true false i e = absurd (let wrong : Err RowFaults.Target ≡ Err RowFaults.Opcode = e in cc)
-known false target i e = absurd (let wrong : Err RowFaults.Field ≡ Err RowFaults.Opcode = e in cc)
+known_one : (fields target : Bool) (i : Instr) → checked_lem fields target i ≡ Err RowFaults.Opcode → ⊥
+known_one true true i e = absurd cc
+known_one true false i e = absurd (let wrong : Err RowFaults.Target ≡ Err RowFaults.Opcode = e in cc)
+known_one false target i e = absurd (let wrong : Err RowFaults.Field ≡ Err RowFaults.Opcode = e in cc)
 
--- the opcode alone decides that it is unknown
-opcode_kept : (count : ℕ) (last : Bool) (r : Row) (count' : ℕ) (last' : Bool) (s : Row) → s.code ≡ r.code → instr_of_lem count last r ≡ Err RowFaults.Opcode → instr_of_lem count' last' s ≡ Err RowFaults.Opcode
-opcode_kept count last r count' last' s same =
-    in_row (Fails RowFaults.Opcode) 0x01 r.code s.code same (known _ _ _)
-    (in_row (Fails RowFaults.Opcode) 0x09 r.code s.code same (known _ _ _)
-    (in_row (Fails RowFaults.Opcode) 0x0a r.code s.code same (known _ _ _)
-    (in_row (Fails RowFaults.Opcode) 0x20 r.code s.code same (known _ _ _)
-    (in_row (Fails RowFaults.Opcode) 0x23 r.code s.code same (known (is_bare r) true Ret)
-    (in_row (Fails RowFaults.Opcode) 0x24 r.code s.code same (known (is_bare r) true Halt)
-    (λ e. e))))))
+unknown : (count : ℕ) (last : Bool) (r : Row) (o : Option Instr) → tested count last r o ≡ Err RowFaults.Opcode → o ≡ None
+unknown count last r None e = refl
+unknown count last r (Some i) e = absurd (known_one _ _ i e)
+
+opcode_kept : (r s : Row) → s.code ≡ r.code → by_opcode_lem r ≡ None → by_opcode_lem s ≡ None
+opcode_kept r s same e =
+    let here = unknown_again r.code r.a r.b r.c r.p r.q s.a s.b s.c s.p s.q e in
+    subst (λ (code : ℕ). by_opcode_lem (the_row code s.a s.b s.c s.p s.q) ≡ None) (sym same) here
 
 pub wrong_opcode : (count : ℕ) (last : Bool) (r : Row) → instr_of_lem count last r ≡ Err RowFaults.Opcode → HasWrongOpcode r
-wrong_opcode count last r e i n fits same = absurd (let wrong : Err RowFaults.Opcode ≡ Ok i = sym (opcode_kept count last r n false (row_of_lem i) same e) ∙ instr_again n false i fits (λ h. never h) in cc)
+wrong_opcode count last r e i n fits same =
+    let none = opcode_kept r (row_of_lem i) same (unknown count last r (by_opcode_lem r) e) in
+    absurd (let wrong : None ≡ Some i = sym none ∙ by_opcode_again n i fits in cc)
 
 -- the fields alone decide that they are wrong
 field_again : (fields target target' : Bool) (i : Instr) → checked_lem fields target i ≡ Err RowFaults.Field → checked_lem fields target' i ≡ Err RowFaults.Field
@@ -102,69 +83,43 @@ field_again true true target' i e = absurd cc
 field_again true false target' i e = absurd (let wrong : Err RowFaults.Target ≡ Err RowFaults.Field = e in cc)
 field_again false target target' i e = refl
 
-field_kept : (count : ℕ) (last : Bool) (r : Row) (count' : ℕ) (last' : Bool) → instr_of_lem count last r ≡ Err RowFaults.Field → instr_of_lem count' last' r ≡ Err RowFaults.Field
-field_kept count last r count' last' =
-    in_row (Fails RowFaults.Field) 0x01 r.code r.code refl (field_again _ _ _ _)
-    (in_row (Fails RowFaults.Field) 0x09 r.code r.code refl (field_again _ _ _ _)
-    (in_row (Fails RowFaults.Field) 0x0a r.code r.code refl (field_again _ _ _ _)
-    (in_row (Fails RowFaults.Field) 0x20 r.code r.code refl (field_again _ _ _ _)
-    (in_row (Fails RowFaults.Field) 0x23 r.code r.code refl (field_again (is_bare r) true true Ret)
-    (in_row (Fails RowFaults.Field) 0x24 r.code r.code refl (field_again (is_bare r) true true Halt)
-    (λ e. e))))))
-
--- an instruction has the opcode
-abbrev HasOpcode : Row → Type 0
-HasOpcode r = (i : Instr) × (count : ℕ) × IsInstr count i × ((row_of_lem i).code ≡ r.code)
-
-known_opcode : (count : ℕ) (last : Bool) (r : Row) → instr_of_lem count last r ≡ Err RowFaults.Field → HasOpcode r
-known_opcode count last r =
-    or_row (λ mine e. (Const 0 0, 1, (omega arith, omega arith), sym (eqb-true _ _ mine)))
-    (or_row (λ mine e. (Brz 0 0, 1, (omega arith, omega arith), sym (eqb-true _ _ mine)))
-    (or_row (λ mine e. (Input 0 1, 1, (omega arith, refl), sym (eqb-true _ _ mine)))
-    (or_row (λ mine e. (Assert 0, 1, omega arith, sym (eqb-true _ _ mine)))
-    (or_row (λ mine e. (Ret, 1, tt, sym (eqb-true _ _ mine)))
-    (or_row (λ mine e. (Halt, 1, tt, sym (eqb-true _ _ mine)))
-    (λ e. absurd (let wrong : Err RowFaults.Opcode ≡ Err RowFaults.Field = e in cc)))))))
+-- an opcode that is known, and the same fault wherever the row stands
+field_kept : (count : ℕ) (last : Bool) (r : Row) (o : Option Instr) → tested count last r o ≡ Err RowFaults.Field → ((i : Instr) × (o ≡ Some i)) × ((n : ℕ) → tested n false r o ≡ Err RowFaults.Field)
+field_kept count last r None e = absurd (let wrong : Err RowFaults.Opcode ≡ Err RowFaults.Field = e in cc)
+field_kept count last r (Some i) e = ((i, refl), λ n. field_again _ _ _ i e)
 
 pub wrong_field : (count : ℕ) (last : Bool) (r : Row) → instr_of_lem count last r ≡ Err RowFaults.Field → HasWrongField r
 wrong_field count last r e =
-    let h = known_opcode count last r e in
+    let kept = field_kept count last r (by_opcode_lem r) e in
+    let h = known r kept.0.0 kept.0.1 in
     record {
-      instr = h.0;
-      count = h.1;
-      fits = h.2;
-      opcode = h.3;
-      none = λ i n fits same. absurd (let wrong : Err RowFaults.Field ≡ Ok i = sym (field_kept count last r n false e) ∙ ap (instr_of_lem n false) same ∙ instr_again n false i fits (λ h. never h) in cc);
+      instr = h.instr;
+      count = h.count;
+      fits = h.fits;
+      opcode = h.opcode;
+      none = λ i n fits same. absurd (let wrong : Err RowFaults.Field ≡ Ok i = sym (kept.1 n) ∙ ap (instr_of_lem n false) same ∙ instr_again n false i fits (λ h. never h) in cc);
     }
 
-abbrev IsRead : Result Instr RowFault → Type 0
-IsRead result = (i : Instr) × (result ≡ Ok i)
+-- where the target is wrong, the fields are right
+target_alone : (fields target : Bool) (i : Instr) → checked_lem fields target i ≡ Err RowFaults.Target → fields ≡ true
+target_alone true target i e = refl
+target_alone false target i e = absurd (let wrong : Err RowFaults.Field ≡ Err RowFaults.Target = e in cc)
 
-read_elsewhere : (fields target target' : Bool) (i : Instr) → target' ≡ true → checked_lem fields target i ≡ Err RowFaults.Target → IsRead (checked_lem fields target' i)
-read_elsewhere true true target' i there e = absurd cc
-read_elsewhere true false target' i there e = (i, ap (λ (b : Bool). checked_lem true b i) there)
-read_elsewhere false target target' i there e = absurd (let wrong : Err RowFaults.Field ≡ Err RowFaults.Target = e in cc)
-
--- where there are more instructions than the target, and others follow, it is an instruction
-reads_elsewhere : (count : ℕ) (last : Bool) (r : Row) → instr_of_lem count last r ≡ Err RowFaults.Target → IsRead (instr_of_lem (suc r.p) false r)
-reads_elsewhere count last r =
-    in_row IsRead 0x01 r.code r.code refl (read_elsewhere (is_reg r && eqb r.q 0) (not last) true (Const r.a r.p) refl)
-    (in_row IsRead 0x09 r.code r.code refl (read_elsewhere (is_reg r && eqb r.q 0) (ltb r.p count && not last) (ltb r.p (suc r.p) && true) (Brz r.a r.p) (rw (lt-ltb r.p (suc r.p) (omega arith)) refl))
-    (in_row IsRead 0x0a r.code r.code refl (read_elsewhere (is_reg r && eqb r.p 1 && eqb r.q 0) (not last) true (Input r.a r.p) refl)
-    (in_row IsRead 0x20 r.code r.code refl (read_elsewhere (is_reg r && eqb r.p 0 && eqb r.q 0) (not last) true (Assert r.a) refl)
-    (in_row IsRead 0x23 r.code r.code refl (read_elsewhere (is_bare r) true true Ret refl)
-    (in_row IsRead 0x24 r.code r.code refl (read_elsewhere (is_bare r) true true Halt refl)
-    (λ e. absurd (let wrong : Err RowFaults.Opcode ≡ Err RowFaults.Target = e in cc)))))))
+fields_right : (count : ℕ) (last : Bool) (r : Row) (o : Option Instr) → tested count last r o ≡ Err RowFaults.Target → (i : Instr) × (row_of_lem i ≡ r) × (is_in_range_lem i ≡ true)
+fields_right count last r None e = absurd (let wrong : Err RowFaults.Opcode ≡ Err RowFaults.Target = e in cc)
+fields_right count last r (Some i) e =
+    let h = fields_passed r i (target_alone _ _ i e) in
+    (i, h.0, h.1)
 
 pub wrong_target : (count left : ℕ) (r : Row) → r.p < 2 ^ 16 → instr_of_lem count (eqb left 0) r ≡ Err RowFaults.Target → HasWrongTarget count left r
 wrong_target count left r fits e =
-    let h = reads_elsewhere count (eqb left 0) r e in
-    let read = instr_read (suc r.p) false r h.0 h.1 in
+    let h = fields_right count (eqb left 0) r (by_opcode_lem r) e in
+    let among = suc (row_of_lem h.0).p in
     record {
       instr = h.0;
-      among = suc r.p;
-      fits = read.1 fits;
-      fields = read.0;
+      among = among;
+      fits = is_instr among false h.0 (subst (λ (s : Row). s.p < 2 ^ 16) (sym h.1) fits) h.2 (stands_elsewhere h.0);
+      fields = sym h.1;
       stray = λ i is stands. absurd (let wrong : Err RowFaults.Target ≡ Ok i = sym e ∙ ap (instr_of_lem count (eqb left 0)) is ∙ instr_again count (eqb left 0) i stands.0 (λ t. stands.1 (eqb-true left 0 t)) in cc);
     }
 

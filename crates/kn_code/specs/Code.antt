@@ -1,7 +1,7 @@
 -- What a program is, without where it lies in memory.
-use Rattle.std.specs.Prelude.{◌≡◌, ℕ, ◌<◌, ◌≤◌, ◌^◌, List, [], ◌∷◌, length, Option, IfSome}
+use Rattle.std.specs.Prelude.{◌≡◌, ℕ, ◌+◌, ◌<◌, ◌≤◌, ◌^◌, List, [], ◌∷◌, length, Option, IfSome}
 use Rattle.kn_code.specs.declared.program.Instr.{Instr}
-use Rattle.kn_code.specs.declared.program.Instr.TheVariants.{Const, Brz, Input, Assert, Ret, Halt}
+use Rattle.kn_code.specs.declared.program.Instr.TheVariants.{Const, Mov, Jmp, Brz, Input, Timer, Cancel, Send, Bcast, Recvw, Rlen, Rfrom, Assert, Node, Now, Ret, Halt}
 
 -- Its instructions, and where its ten handlers begin (boot, recv, timer 0 to timer 7).
 pub record Code : Type 0 where
@@ -15,15 +15,27 @@ no_code = record { instrs = []; handlers = [] }
 -- The fields of an instruction among so many are in range. A row that is not built yet is no instruction of a program.
 abbrev pub IsInstr : ℕ → Instr → Type 0
 IsInstr count (Const a n) = (a < 16) × (n < 2 ^ 16)
+IsInstr count (Mov a b) = (a < 16) × (b < 16)
+IsInstr count (Jmp to) = to < count
 IsInstr count (Brz a to) = (a < 16) × (to < count)
 IsInstr count (Input a w) = (a < 16) × (w ≡ 1)
+IsInstr count (Timer k d) = (k < 8) × ((1 ≤ d) × (d < 2 ^ 16))
+IsInstr count (Cancel k) = k < 8
+IsInstr count (Send l b n) = (l < 2 ^ 16) × ((n ≤ 8) × (b + n ≤ 16))
+IsInstr count (Bcast b n) = (n ≤ 8) × (b + n ≤ 16)
+IsInstr count (Recvw a k) = (a < 16) × (k < 8)
+IsInstr count (Rlen a) = a < 16
+IsInstr count (Rfrom a) = a < 16
 IsInstr count (Assert a) = a < 16
+IsInstr count (Node a) = a < 16
+IsInstr count (Now a) = a < 16
 IsInstr count Ret = Unit {0}
 IsInstr count Halt = Unit {0}
 IsInstr count other = ⊥
 
 -- it may stand last
 abbrev pub Ends : Instr → Type 0
+Ends (Jmp to) = Unit {0}
 Ends Ret = Unit {0}
 Ends Halt = Unit {0}
 Ends other = ⊥

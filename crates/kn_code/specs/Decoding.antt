@@ -1,15 +1,16 @@
 -- Reading a program from left to right, with the first fault that is met.
-use Rattle.std.specs.Prelude.{Bool, true, ◌≡◌, ℕ, zero, suc, ◌+◌, ◌*◌, ◌&&◌, not, List, [], ◌∷◌, length, drop, Option, Some, None, Ok, Err, ◌==◌, nat_lt, if◌then◌else◌, slice_index}
+use Rattle.std.specs.Prelude.{Bool, true, false, ◌≡◌, ℕ, zero, suc, ◌+◌, ◌*◌, ◌&&◌, not, List, [], ◌∷◌, length, drop, Option, Some, None, Ok, Err, ◌==◌, nat_lt, nat_le, if◌then◌else◌, slice_index}
 use Rattle.std.specs.declared.result.Result.{Result}
 use Rattle.std.specs.Int.{w16, from_be_bytes}
 use Rattle.kn_code.specs.declared.program.Instr.{Instr}
-use Rattle.kn_code.specs.declared.program.Instr.TheVariants.{Const, Brz, Input, Assert, Ret, Halt}
+use Rattle.kn_code.specs.declared.program.Instr.TheVariants.{Const, Mov, Jmp, Brz, Input, Timer, Cancel, Send, Bcast, Recvw, Rlen, Rfrom, Assert, Node, Now, Ret, Halt}
 use Rattle.kn_code.specs.declared.row.Row.{Row}
 use Rattle.kn_code.specs.declared.row.RowFault.{RowFault}
 use Rattle.kn_code.specs.declared.row.RowFault.TheVariants as rows
 use Rattle.kn_code.specs.declared.decoding.CodeFault.{CodeFault}
 use Rattle.kn_code.specs.declared.decoding.CodeFault.TheVariants as faults
 use Rattle.kn_code.specs.Code.{Code}
+use Rattle.kn_code.specs.Rows.{row_of_lem}
 
 -- the first fault is the fault of the whole
 infixl 10 ◌>>=◌
@@ -59,24 +60,77 @@ handled place (Err entry) = Err (faults.Handler place)
 unfoldable pub handler_at : ℕ → ℕ → ℕ → List ℕ → Result (Option ℕ) CodeFault
 handler_at count left place bytes = handled place (names count (entry_at_lem bytes))
 
--- the opcode is known; then the fields are tested, then the target
+-- The instruction that an opcode makes of the fields, whatever they are. An opcode without a row here is unknown.
+abbrev pub by_opcode_lem : Row → Option Instr
+by_opcode_lem r =
+    if r.code == 0x01 then Some (Const r.a r.p)
+    else (if r.code == 0x02 then Some (Mov r.a r.b)
+    else (if r.code == 0x08 then Some (Jmp r.p)
+    else (if r.code == 0x09 then Some (Brz r.a r.p)
+    else (if r.code == 0x0a then Some (Input r.a r.p)
+    else (if r.code == 0x0b then Some (Timer r.a r.p)
+    else (if r.code == 0x0c then Some (Cancel r.a)
+    else (if r.code == 0x0d then Some (Send r.p r.b r.a)
+    else (if r.code == 0x0e then Some (Bcast r.b r.a)
+    else (if r.code == 0x0f then Some (Recvw r.a r.p)
+    else (if r.code == 0x1e then Some (Rlen r.a)
+    else (if r.code == 0x1f then Some (Rfrom r.a)
+    else (if r.code == 0x20 then Some (Assert r.a)
+    else (if r.code == 0x21 then Some (Node r.a)
+    else (if r.code == 0x22 then Some (Now r.a)
+    else (if r.code == 0x23 then Some Ret
+    else (if r.code == 0x24 then Some Halt
+    else None))))))))))))))))
+
+-- the first of some registers and how many they are, 0 to 8 of the 16
+abbrev pub is_span_lem : ℕ → ℕ → Bool
+is_span_lem b n = nat_le n 8 && nat_le (b + n) 16
+
+-- registers, counts, timers, indices, delays and widths are in range
+abbrev pub is_in_range_lem : Instr → Bool
+is_in_range_lem (Const a n) = nat_lt a 16
+is_in_range_lem (Mov a b) = nat_lt a 16 && nat_lt b 16
+is_in_range_lem (Jmp to) = true
+is_in_range_lem (Brz a to) = nat_lt a 16
+is_in_range_lem (Input a w) = nat_lt a 16 && (w == 1)
+is_in_range_lem (Timer k d) = nat_lt k 8 && nat_le 1 d
+is_in_range_lem (Cancel k) = nat_lt k 8
+is_in_range_lem (Send l b n) = is_span_lem b n
+is_in_range_lem (Bcast b n) = is_span_lem b n
+is_in_range_lem (Recvw a k) = nat_lt a 16 && nat_lt k 8
+is_in_range_lem (Rlen a) = nat_lt a 16
+is_in_range_lem (Rfrom a) = nat_lt a 16
+is_in_range_lem (Assert a) = nat_lt a 16
+is_in_range_lem (Node a) = nat_lt a 16
+is_in_range_lem (Now a) = nat_lt a 16
+is_in_range_lem Ret = true
+is_in_range_lem Halt = true
+is_in_range_lem other = false
+
+-- a jump goes to an instruction, and the last instruction ends
+abbrev pub may_stand_lem : ℕ → Bool → Instr → Bool
+may_stand_lem count last (Jmp to) = nat_lt to count
+may_stand_lem count last (Brz a to) = nat_lt to count && not last
+may_stand_lem count last Ret = true
+may_stand_lem count last Halt = true
+may_stand_lem count last other = not last
+
+-- two rows have the same opcode and fields
+abbrev pub is_same_row : Row → Row → Bool
+is_same_row r s = (r.code == s.code) && ((r.a == s.a) && ((r.b == s.b) && ((r.c == s.c) && ((r.p == s.p) && (r.q == s.q)))))
+
+-- the fields are tested, then the target
 abbrev pub checked_lem : Bool → Bool → Instr → Result Instr RowFault
 checked_lem fields target i = if fields then (if target then Ok i else Err rows.Target) else Err rows.Field
 
--- a register in field a alone
-abbrev pub is_reg : Row → Bool
-is_reg r = nat_lt r.a 16 && (r.b == 0) && (r.c == 0)
+-- an instruction is a row's where it is in range and its own row is that one, with 0 in the fields that it does not use
+abbrev pub tested : ℕ → Bool → Row → Option Instr → Result Instr RowFault
+tested count last r None = Err rows.Opcode
+tested count last r (Some i) = checked_lem (is_same_row (row_of_lem i) r && is_in_range_lem i) (may_stand_lem count last i) i
 
--- The instruction of a row among so many, and whether it is the last one. An opcode without a row here is unknown.
+-- the instruction of a row among so many, and whether it is the last one
 abbrev pub instr_of_lem : ℕ → Bool → Row → Result Instr RowFault
-instr_of_lem count last r =
-    if r.code == 0x01 then checked_lem (is_reg r && (r.q == 0)) (not last) (Const r.a r.p)
-    else (if r.code == 0x09 then checked_lem (is_reg r && (r.q == 0)) (nat_lt r.p count && not last) (Brz r.a r.p)
-    else (if r.code == 0x0a then checked_lem (is_reg r && (r.p == 1) && (r.q == 0)) (not last) (Input r.a r.p)
-    else (if r.code == 0x20 then checked_lem (is_reg r && (r.p == 0) && (r.q == 0)) (not last) (Assert r.a)
-    else (if r.code == 0x23 then checked_lem (is_reg r && (r.a == 0) && (r.p == 0) && (r.q == 0)) true Ret
-    else (if r.code == 0x24 then checked_lem (is_reg r && (r.a == 0) && (r.p == 0) && (r.q == 0)) true Halt
-    else Err rows.Opcode)))))
+instr_of_lem count last r = tested count last r (by_opcode_lem r)
 
 -- the row that stands at a place
 abbrev pub row_at_lem : List ℕ → ℕ → Row

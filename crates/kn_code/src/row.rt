@@ -2,13 +2,13 @@
 
 ghost use Rattle.std.specs.Prelude.{◌≡◌, ◌+◌, ◌≤◌, ◌++◌, length, OnOk};
 ghost use Rattle.kn_code.specs.Rows.{row_bytes, row_of_lem, the_row};
-ghost use Rattle.kn_code.specs.Decoding.{checked_lem, instr_of_lem, row_at_lem};
+ghost use Rattle.kn_code.specs.Decoding.{by_opcode_lem, is_span_lem, is_in_range_lem, may_stand_lem, checked_lem, instr_of_lem, row_at_lem};
 
 use crate::program::Instr;
 use std::alloc::AllocError;
 
 /// An instruction's opcode and fields.
-#[derive(Clone, Copy)]
+#[derive(Clone, Copy, PartialEq)]
 pub struct Row {
     pub code: u8,
     pub a: u8,
@@ -38,36 +38,90 @@ fn checked(fields: bool, target: bool, instr: Instr) -> Result<Instr, RowFault>
     Ok(instr)
 }
 
-/// The instruction of a row among `count`, which is the last one or not. One arm for each row that a program may hold; the
-/// fields are tested before the target.
+/// The instruction that the opcode makes of the fields, whatever they are; None for an opcode of no instruction that a
+/// program may hold.
+fn by_opcode(row: Row) -> Option<Instr>
+    ensures { result ≡ by_opcode_lem row }
+{
+    let Row { code, a, b, p, .. } = row;
+    match code {
+        0x01 => Some(Instr::Const { a, n: p }),
+        0x02 => Some(Instr::Mov { a, b }),
+        0x08 => Some(Instr::Jmp { to: p }),
+        0x09 => Some(Instr::Brz { a, to: p }),
+        0x0a => Some(Instr::Input { a, w: p }),
+        0x0b => Some(Instr::Timer { k: a, d: p }),
+        0x0c => Some(Instr::Cancel { k: a }),
+        0x0d => Some(Instr::Send { l: p, b, n: a }),
+        0x0e => Some(Instr::Bcast { b, n: a }),
+        0x0f => Some(Instr::Recvw { a, k: p }),
+        0x1e => Some(Instr::Rlen { a }),
+        0x1f => Some(Instr::Rfrom { a }),
+        0x20 => Some(Instr::Assert { a }),
+        0x21 => Some(Instr::Node { a }),
+        0x22 => Some(Instr::Now { a }),
+        0x23 => Some(Instr::Ret),
+        0x24 => Some(Instr::Halt),
+        _ => None,
+    }
+}
+
+/// Whether so many registers may be sent from the first one on.
+fn is_span(first: u8, count: u8) -> bool
+    ensures { result ≡ is_span_lem first count }
+{
+    count <= 8 && u16::from(first) + u16::from(count) <= 16
+}
+
+/// Whether the fields that the instruction uses are in range.
+fn is_in_range(instr: Instr) -> bool
+    ensures { result ≡ is_in_range_lem instr }
+{
+    match instr {
+        Instr::Const { a, .. } => a < 16,
+        Instr::Mov { a, b } => a < 16 && b < 16,
+        Instr::Brz { a, .. } => a < 16,
+        Instr::Input { a, w } => a < 16 && w == 1,
+        Instr::Timer { k, d } => k < 8 && d >= 1,
+        Instr::Cancel { k } => k < 8,
+        Instr::Send { b, n, .. } => is_span(b, n),
+        Instr::Bcast { b, n } => is_span(b, n),
+        Instr::Recvw { a, k } => a < 16 && k < 8,
+        Instr::Rlen { a } => a < 16,
+        Instr::Rfrom { a } => a < 16,
+        Instr::Assert { a } => a < 16,
+        Instr::Node { a } => a < 16,
+        Instr::Now { a } => a < 16,
+        Instr::Jmp { .. } | Instr::Ret | Instr::Halt => true,
+        _ => false,
+    }
+}
+
+/// Whether the instruction may stand among `count`, as the last one or not: a jump goes to one of them, and the last one
+/// ends.
+fn may_stand(instr: Instr, count: u16, is_last: bool) -> bool
+    ensures { result ≡ may_stand_lem count is_last instr }
+{
+    match instr {
+        Instr::Jmp { to } => to < count,
+        Instr::Brz { to, .. } => to < count && !is_last,
+        Instr::Ret | Instr::Halt => true,
+        _ => !is_last,
+    }
+}
+
+/// The instruction of a row among `count`, which is the last one or not. The fields are tested before the target: they are
+/// in range, and those that the instruction does not use are 0, as in its own row.
 pub fn instr_of(row: Row, count: u16, is_last: bool) -> Result<Instr, RowFault>
     ensures { result ≡ instr_of_lem count is_last row }
 {
-    let Row {
-        code,
-        a,
-        b,
-        c,
-        p,
-        q,
-    } = row;
-    let is_reg = a < 16 && b == 0 && c == 0;
-    match code {
-        0x01 => checked(is_reg && q == 0, !is_last, Instr::Const { a, n: p }),
-        0x09 => checked(
-            is_reg && q == 0,
-            p < count && !is_last,
-            Instr::Brz { a, to: p },
+    match by_opcode(row) {
+        None => Err(RowFault::Opcode),
+        Some(instr) => checked(
+            row_of(instr) == row && is_in_range(instr),
+            may_stand(instr, count, is_last),
+            instr,
         ),
-        0x0a => checked(
-            is_reg && p == 1 && q == 0,
-            !is_last,
-            Instr::Input { a, w: p },
-        ),
-        0x20 => checked(is_reg && p == 0 && q == 0, !is_last, Instr::Assert { a }),
-        0x23 => checked(is_reg && a == 0 && p == 0 && q == 0, true, Instr::Ret),
-        0x24 => checked(is_reg && a == 0 && p == 0 && q == 0, true, Instr::Halt),
-        _ => Err(RowFault::Opcode),
     }
 }
 
