@@ -1,5 +1,5 @@
 -- The two kinds of items: a handler's entry and an instruction.
-use Rattle.std.proofs.Common.{◌≡◌, ◌⊎◌, ℕ, zero, suc, ◌^◌, ◌<◌, ◌≤◌, Bool, true, false, cond, eqb, ltb, not, List, [], ◌∷◌, ◌++◌, length, get_or, drop, Option, Some, None, Result, Ok, Err, refl, sym, ap, subst, ◌∙◌, arith, inl, inr}
+use Rattle.std.proofs.Common.{◌≡◌, ◌⊎◌, ℕ, zero, suc, ◌^◌, ◌<◌, ◌≤◌, Bool, true, false, cond, eqb, ltb, List, [], ◌∷◌, ◌++◌, length, get_or, drop, Option, Some, None, Result, Ok, Err, refl, sym, ap, subst, ◌∙◌, arith, inl, inr}
 use Rattle.std.specs.Prelude.{◌&&◌, unwrap_or}
 use Rattle.std.specs.Int.{w16, to_be_bytes, from_be_bytes}
 use Rattle.std.proofs.lemmas.Bool.{eqb-true, eq-eqb, ltb-true, lt-ltb, ne_eqb}
@@ -7,7 +7,6 @@ use Rattle.std.proofs.lemmas.Nat.{be_bytes_2, from_be_bytes-to_be_bytes_2}
 use Rattle.kn_code.specs.declared.program.Instr.{Instr}
 use Rattle.kn_code.specs.declared.row.Row.{Row}
 use Rattle.kn_code.specs.declared.row.RowFault.{RowFault}
-use Rattle.kn_code.specs.declared.row.RowFault.TheVariants as RowFaults
 use Rattle.kn_code.specs.Code.{IsInstr, Ends, Stands, Names}
 use Rattle.kn_code.specs.Rows.{the_row, row_of_lem, row_bytes, entry_bytes, instr_bytes}
 use Rattle.kn_code.specs.Decoding.{by_opcode_lem, is_in_range_lem, may_stand_lem, is_same_row, checked_lem, tested, instr_of_lem, row_at_lem, entry_at_lem, names, handled, handler_at, instr_placed, instr_at}

@@ -1,5 +1,6 @@
 -- What holds of each instruction and of its own row, instruction by instruction.
-use Rattle.std.proofs.Common.{◌≡◌, ℕ, suc, ◌+◌, ◌^◌, ◌<◌, ◌≤◌, Bool, true, false, cond, eqb, leb, ltb, not, Option, Some, None, refl, sym, subst, arith}
+use Rattle.std.proofs.Common.{◌≡◌, ℕ, suc, ◌+◌, ◌^◌, ◌<◌, ◌≤◌, Bool, true, false, cond, eqb, leb, ltb, not, Option, Some, None, refl, sym, arith}
+use Rattle.std.specs.Prelude.{◌&&◌}
 use Rattle.std.proofs.lemmas.Bool.{eqb-true, eq-eqb, ltb-true, lt-ltb, leb-true, le-leb, and_parts, and_from}
 use Rattle.kn_code.specs.declared.program.Instr.{Instr}
 use Rattle.kn_code.specs.declared.program.Instr.TheVariants.{Const, Mov, Jmp, Brz, Input, Timer, Cancel, Send, Bcast, Recvw, Rlen, Rfrom, Assert, Node, Now, Ret, Halt}
@@ -55,14 +56,15 @@ words_fit count Halt small h = (omega arith, omega arith)
 words_fit count other small h = absurd h
 
 -- ---- its ranges
--- what is sent are eight registers at most, of the 16
-span_from : (b n : ℕ) → n ≤ 8 → b + n ≤ 16 → is_span_lem b n ≡ true
-span_from b n few room = and_from (leb n 8) (leb (b + n) 16) (le-leb n 8 few) (le-leb (b + n) 16 room)
+-- the registers that are sent
+span_from : (b n : ℕ) → (n ≤ 8) × (b + n ≤ 16) × (b < 16) → is_span_lem b n ≡ true
+span_from b n h = and_from (ltb b 16 && leb n 8) (leb (b + n) 16) (and_from (ltb b 16) (leb n 8) (lt-ltb b 16 h.2) (le-leb n 8 h.0)) (le-leb (b + n) 16 h.1)
 
-span_of : (b n : ℕ) → is_span_lem b n ≡ true → (n ≤ 8) × (b + n ≤ 16)
+span_of : (b n : ℕ) → is_span_lem b n ≡ true → (n ≤ 8) × (b + n ≤ 16) × (b < 16)
 span_of b n e =
-    let h = and_parts (leb n 8) (leb (b + n) 16) e in
-    (leb-true n 8 h.0, leb-true (b + n) 16 h.1)
+    let h = and_parts (ltb b 16 && leb n 8) (leb (b + n) 16) e in
+    let k = and_parts (ltb b 16) (leb n 8) h.0 in
+    (leb-true n 8 k.1, leb-true (b + n) 16 h.1, ltb-true b 16 k.0)
 
 -- its fields are in range
 pub in_range : (count : ℕ) (i : Instr) → IsInstr count i → is_in_range_lem i ≡ true
@@ -73,8 +75,8 @@ in_range count (Brz a to) h = lt-ltb a 16 h.0
 in_range count (Input a w) h = and_from (ltb a 16) (eqb w 1) (lt-ltb a 16 h.0) (eq-eqb w 1 h.1)
 in_range count (Timer k d) h = and_from (ltb k 8) (leb 1 d) (lt-ltb k 8 h.0) (le-leb 1 d h.1.0)
 in_range count (Cancel k) h = lt-ltb k 8 h
-in_range count (Send l b n) h = span_from b n h.1.0 h.1.1
-in_range count (Bcast b n) h = span_from b n h.0 h.1
+in_range count (Send l b n) h = span_from b n h.1
+in_range count (Bcast b n) h = span_from b n h
 in_range count (Recvw a k) h = and_from (ltb a 16) (ltb k 8) (lt-ltb a 16 h.0) (lt-ltb k 8 h.1)
 in_range count (Rlen a) h = lt-ltb a 16 h
 in_range count (Rfrom a) h = lt-ltb a 16 h
@@ -198,8 +200,8 @@ known r i =
     (or_row (λ mine e. has (Input 0 1) (omega arith, refl) mine)
     (or_row (λ mine e. has (Timer 0 1) (omega arith, (omega arith, omega arith)) mine)
     (or_row (λ mine e. has (Cancel 0) (omega arith) mine)
-    (or_row (λ mine e. has (Send 0 0 0) (omega arith, (omega arith, omega arith)) mine)
-    (or_row (λ mine e. has (Bcast 0 0) (omega arith, omega arith) mine)
+    (or_row (λ mine e. has (Send 0 0 0) (omega arith, (omega arith, omega arith, omega arith)) mine)
+    (or_row (λ mine e. has (Bcast 0 0) (omega arith, omega arith, omega arith) mine)
     (or_row (λ mine e. has (Recvw 0 0) (omega arith, omega arith) mine)
     (or_row (λ mine e. has (Rlen 0) (omega arith) mine)
     (or_row (λ mine e. has (Rfrom 0) (omega arith) mine)

@@ -1,8 +1,7 @@
 -- What is wrong where the reading of a handler's entry or of a row stops.
-use Rattle.std.proofs.Common.{◌≡◌, ◌≢◌, ℕ, suc, ◌+◌, ◌^◌, ◌<◌, Bool, true, false, cond, eqb, ltb, not, List, [], ◌∷◌, get_or, drop, Option, Some, None, Result, Ok, Err, refl, sym, ap, subst, ◌∙◌, arith}
-use Rattle.std.specs.Prelude.{◌&&◌}
+use Rattle.std.proofs.Common.{◌≡◌, ◌≢◌, ℕ, suc, ◌+◌, ◌^◌, ◌<◌, Bool, true, false, cond, eqb, ltb, List, [], ◌∷◌, get_or, drop, Option, Some, None, Result, Ok, Err, refl, sym, ap, subst, ◌∙◌, arith}
 use Rattle.std.specs.Int.{w16, from_be_bytes}
-use Rattle.std.proofs.lemmas.Bool.{eqb-true, eq-eqb, lt-ltb, ltb-true, ltb-false}
+use Rattle.std.proofs.lemmas.Bool.{eqb-true, eq-eqb, ltb-true, ltb-false}
 use Rattle.std.proofs.lemmas.List.{get_or-drop}
 use Rattle.kn_code.specs.declared.program.Instr.{Instr}
 use Rattle.kn_code.specs.declared.row.Row.{Row}
@@ -10,7 +9,6 @@ use Rattle.kn_code.specs.declared.row.RowFault.{RowFault}
 use Rattle.kn_code.specs.declared.row.RowFault.TheVariants as RowFaults
 use Rattle.kn_code.specs.declared.decoding.CodeFault.{CodeFault}
 use Rattle.kn_code.specs.declared.decoding.CodeFault.TheVariants as faults
-use Rattle.kn_code.specs.Code.{IsInstr}
 use Rattle.kn_code.specs.Rows.{the_row, row_of_lem}
 use Rattle.kn_code.specs.Decoding.{by_opcode_lem, is_in_range_lem, checked_lem, tested, instr_of_lem, row_at_lem, names, handled, handler_at, instr_placed, instr_at}
 use Rattle.kn_code.specs.Faults.{word_at, row_here, IsWrongEntry, HasWrongOpcode, HasWrongField, HasWrongTarget, HasInstr}

@@ -82,9 +82,9 @@ by_opcode_lem r =
     else (if r.code == 0x24 then Some Halt
     else None))))))))))))))))
 
--- the first of some registers and how many they are, 0 to 8 of the 16
+-- a register, and how many from it on: 0 to 8 of the 16
 abbrev pub is_span_lem : ℕ → ℕ → Bool
-is_span_lem b n = nat_le n 8 && nat_le (b + n) 16
+is_span_lem b n = nat_lt b 16 && nat_le n 8 && nat_le (b + n) 16
 
 -- registers, counts, timers, indices, delays and widths are in range
 abbrev pub is_in_range_lem : Instr → Bool

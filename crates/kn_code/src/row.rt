@@ -66,14 +66,14 @@ fn by_opcode(row: Row) -> Option<Instr>
     }
 }
 
-/// Whether so many registers may be sent from the first one on.
+/// Whether there is the first register, and so many from it on may be sent.
 fn is_span(first: u8, count: u8) -> bool
     ensures { result ≡ is_span_lem first count }
 {
-    count <= 8 && u16::from(first) + u16::from(count) <= 16
+    first < 16 && count <= 8 && first + count <= 16
 }
 
-/// Whether the fields that the instruction uses are in range.
+/// Whether a program may hold the instruction at all: the fields that it uses are in range.
 fn is_in_range(instr: Instr) -> bool
     ensures { result ≡ is_in_range_lem instr }
 {
@@ -87,11 +87,8 @@ fn is_in_range(instr: Instr) -> bool
         Instr::Send { b, n, .. } => is_span(b, n),
         Instr::Bcast { b, n } => is_span(b, n),
         Instr::Recvw { a, k } => a < 16 && k < 8,
-        Instr::Rlen { a } => a < 16,
-        Instr::Rfrom { a } => a < 16,
-        Instr::Assert { a } => a < 16,
-        Instr::Node { a } => a < 16,
-        Instr::Now { a } => a < 16,
+        Instr::Rlen { a } | Instr::Rfrom { a } | Instr::Assert { a } => a < 16,
+        Instr::Node { a } | Instr::Now { a } => a < 16,
         Instr::Jmp { .. } | Instr::Ret | Instr::Halt => true,
         _ => false,
     }
