@@ -119,7 +119,11 @@ fn a_row_before_halt(rt: HostRuntime) -> Result<(), Fail> {
         ([0x24, 0, 0, 1, 0, 0, 0, 0], 'F'),
         ([0x24, 0, 0, 0, 0, 1, 0, 0], 'F'),
         ([0x24, 0, 0, 0, 0, 0, 0, 1], 'F'),
-        ([0x02, 0, 0, 0, 0, 0, 0, 0], 'O'),
+        ([0x00, 0, 0, 0, 0, 0, 0, 0], 'O'),
+        ([0x03, 0, 0, 0, 0, 0, 0, 0], 'O'),
+        ([0x07, 0, 0, 0, 0, 0, 0, 1], 'O'),
+        ([0x10, 0, 0, 0, 0, 0, 0, 0], 'O'),
+        ([0x1d, 0, 0, 0, 0, 0, 0, 0], 'O'),
         ([0x25, 0, 0, 0, 0, 0, 0, 0], 'O'),
     ] {
         let bytes = bytes_of(rt.alloc(), 2, 0, &[row, HALT])?;
@@ -150,6 +154,180 @@ fn the_first_fault_is_given(rt: HostRuntime) -> Result<(), Fail> {
     ] {
         let bytes = bytes_of(rt.alloc(), 2, boot, &rows)?;
         assert_eq!(rt; answer(decode(rt.alloc(), &bytes)), want);
+    }
+    Ok(())
+}
+
+#[test]
+fn rows_of_moves_jumps_timers_and_packets(rt: HostRuntime) -> Result<(), Fail> {
+    for (row, want) in [
+        (
+            [0x02, 15, 14, 0, 0, 0, 0, 0],
+            Ok(Instr::Mov { a: 15, b: 14 }),
+        ),
+        ([0x02, 16, 0, 0, 0, 0, 0, 0], Err('F')),
+        ([0x02, 0, 16, 0, 0, 0, 0, 0], Err('F')),
+        ([0x02, 0, 0, 1, 0, 0, 0, 0], Err('F')),
+        ([0x02, 0, 0, 0, 0, 1, 0, 0], Err('F')),
+        ([0x02, 0, 0, 0, 0, 0, 1, 0], Err('F')),
+        ([0x08, 0, 0, 0, 0, 1, 0, 0], Ok(Instr::Jmp { to: 1 })),
+        ([0x08, 1, 0, 0, 0, 0, 0, 0], Err('F')),
+        ([0x08, 0, 1, 0, 0, 0, 0, 0], Err('F')),
+        ([0x08, 0, 0, 1, 0, 0, 0, 0], Err('F')),
+        ([0x08, 0, 0, 0, 0, 0, 0, 1], Err('F')),
+        ([0x08, 0, 0, 0, 0, 2, 0, 0], Err('T')),
+        ([0x08, 0, 0, 0, 1, 0, 0, 0], Err('T')),
+        ([0x08, 0, 0, 1, 0, 2, 0, 0], Err('F')),
+        (
+            [0x0b, 7, 0, 0, 0xff, 0xff, 0, 0],
+            Ok(Instr::Timer { k: 7, d: 65535 }),
+        ),
+        ([0x0b, 0, 0, 0, 0, 1, 0, 0], Ok(Instr::Timer { k: 0, d: 1 })),
+        ([0x0b, 8, 0, 0, 0, 1, 0, 0], Err('F')),
+        ([0x0b, 0, 1, 0, 0, 1, 0, 0], Err('F')),
+        ([0x0b, 0, 0, 1, 0, 1, 0, 0], Err('F')),
+        ([0x0b, 0, 0, 0, 0, 0, 0, 0], Err('F')),
+        ([0x0b, 0, 0, 0, 0, 1, 0, 1], Err('F')),
+        ([0x0c, 7, 0, 0, 0, 0, 0, 0], Ok(Instr::Cancel { k: 7 })),
+        ([0x0c, 8, 0, 0, 0, 0, 0, 0], Err('F')),
+        ([0x0c, 0, 1, 0, 0, 0, 0, 0], Err('F')),
+        ([0x0c, 0, 0, 1, 0, 0, 0, 0], Err('F')),
+        ([0x0c, 0, 0, 0, 0, 1, 0, 0], Err('F')),
+        ([0x0c, 0, 0, 0, 0, 0, 0, 1], Err('F')),
+        (
+            [0x0d, 8, 8, 0, 0xff, 0xfe, 0, 0],
+            Ok(Instr::Send {
+                l: 65534,
+                b: 8,
+                n: 8,
+            }),
+        ),
+        (
+            [0x0d, 0, 15, 0, 0, 0, 0, 0],
+            Ok(Instr::Send { l: 0, b: 15, n: 0 }),
+        ),
+        ([0x0d, 9, 0, 0, 0, 0, 0, 0], Err('F')),
+        ([0x0d, 8, 9, 0, 0, 0, 0, 0], Err('F')),
+        ([0x0d, 2, 15, 0, 0, 0, 0, 0], Err('F')),
+        ([0x0d, 0, 16, 0, 0, 0, 0, 0], Err('F')),
+        ([0x0d, 1, 0xff, 0, 0, 0, 0, 0], Err('F')),
+        ([0x0d, 1, 0, 1, 0, 0, 0, 0], Err('F')),
+        ([0x0d, 1, 0, 0, 0, 0, 0, 1], Err('F')),
+        (
+            [0x0e, 3, 13, 0, 0, 0, 0, 0],
+            Ok(Instr::Bcast { b: 13, n: 3 }),
+        ),
+        ([0x0e, 9, 0, 0, 0, 0, 0, 0], Err('F')),
+        ([0x0e, 3, 14, 0, 0, 0, 0, 0], Err('F')),
+        ([0x0e, 0, 16, 0, 0, 0, 0, 0], Err('F')),
+        ([0x0e, 1, 0, 1, 0, 0, 0, 0], Err('F')),
+        ([0x0e, 1, 0, 0, 0, 1, 0, 0], Err('F')),
+        ([0x0e, 1, 0, 0, 0, 0, 1, 0], Err('F')),
+        (
+            [0x0f, 15, 0, 0, 0, 7, 0, 0],
+            Ok(Instr::Recvw { a: 15, k: 7 }),
+        ),
+        ([0x0f, 16, 0, 0, 0, 0, 0, 0], Err('F')),
+        ([0x0f, 0, 1, 0, 0, 0, 0, 0], Err('F')),
+        ([0x0f, 0, 0, 1, 0, 0, 0, 0], Err('F')),
+        ([0x0f, 0, 0, 0, 0, 8, 0, 0], Err('F')),
+        ([0x0f, 0, 0, 0, 1, 0, 0, 0], Err('F')),
+        ([0x0f, 0, 0, 0, 0, 0, 0, 1], Err('F')),
+        ([0x1e, 15, 0, 0, 0, 0, 0, 0], Ok(Instr::Rlen { a: 15 })),
+        ([0x1e, 16, 0, 0, 0, 0, 0, 0], Err('F')),
+        ([0x1e, 0, 1, 0, 0, 0, 0, 0], Err('F')),
+        ([0x1e, 0, 0, 1, 0, 0, 0, 0], Err('F')),
+        ([0x1e, 0, 0, 0, 0, 1, 0, 0], Err('F')),
+        ([0x1e, 0, 0, 0, 0, 0, 0, 1], Err('F')),
+        ([0x1f, 15, 0, 0, 0, 0, 0, 0], Ok(Instr::Rfrom { a: 15 })),
+        ([0x1f, 16, 0, 0, 0, 0, 0, 0], Err('F')),
+        ([0x1f, 0, 1, 0, 0, 0, 0, 0], Err('F')),
+        ([0x1f, 0, 0, 1, 0, 0, 0, 0], Err('F')),
+        ([0x1f, 0, 0, 0, 0, 1, 0, 0], Err('F')),
+        ([0x1f, 0, 0, 0, 0, 0, 0, 1], Err('F')),
+        ([0x21, 15, 0, 0, 0, 0, 0, 0], Ok(Instr::Node { a: 15 })),
+        ([0x21, 16, 0, 0, 0, 0, 0, 0], Err('F')),
+        ([0x21, 0, 1, 0, 0, 0, 0, 0], Err('F')),
+        ([0x21, 0, 0, 1, 0, 0, 0, 0], Err('F')),
+        ([0x21, 0, 0, 0, 0, 1, 0, 0], Err('F')),
+        ([0x21, 0, 0, 0, 0, 0, 0, 1], Err('F')),
+        ([0x22, 15, 0, 0, 0, 0, 0, 0], Ok(Instr::Now { a: 15 })),
+        ([0x22, 16, 0, 0, 0, 0, 0, 0], Err('F')),
+        ([0x22, 0, 1, 0, 0, 0, 0, 0], Err('F')),
+        ([0x22, 0, 0, 1, 0, 0, 0, 0], Err('F')),
+        ([0x22, 0, 0, 0, 0, 1, 0, 0], Err('F')),
+        ([0x22, 0, 0, 0, 0, 0, 0, 1], Err('F')),
+    ] {
+        let bytes = bytes_of(rt.alloc(), 2, 0, &[row, HALT])?;
+        let read = decode(rt.alloc(), &bytes);
+        match want {
+            Err(letter) => assert_eq!(rt; answer(read), (letter, 22), "row {}", row[0]),
+            Ok(instr) => match read {
+                Ok(program) => {
+                    assert!(rt; program.instr(0) == Some(instr), "row {}", row[0]);
+                    assert!(rt; encode(rt.alloc(), &program)?.as_slice() == bytes.as_slice());
+                }
+                Err(_) => assert!(rt; false, "row {}", row[0]),
+            },
+        }
+    }
+    Ok(())
+}
+
+#[test]
+fn a_row_after_halt(rt: HostRuntime) -> Result<(), Fail> {
+    for (row, want) in [
+        ([0x08, 0, 0, 0, 0, 1, 0, 0], ('-', 0)),
+        ([0x08, 0, 0, 0, 0, 2, 0, 0], ('T', 30)),
+        ([0x02, 0, 0, 0, 0, 0, 0, 0], ('T', 30)),
+        ([0x0b, 0, 0, 0, 0, 1, 0, 0], ('T', 30)),
+        ([0x0c, 0, 0, 0, 0, 0, 0, 0], ('T', 30)),
+        ([0x0d, 1, 0, 0, 0, 0, 0, 0], ('T', 30)),
+        ([0x0d, 9, 0, 0, 0, 0, 0, 0], ('F', 30)),
+        ([0x0e, 1, 0, 0, 0, 0, 0, 0], ('T', 30)),
+        ([0x0f, 0, 0, 0, 0, 0, 0, 0], ('T', 30)),
+        ([0x1e, 0, 0, 0, 0, 0, 0, 0], ('T', 30)),
+        ([0x1f, 0, 0, 0, 0, 0, 0, 0], ('T', 30)),
+        ([0x21, 0, 0, 0, 0, 0, 0, 0], ('T', 30)),
+        ([0x22, 0, 0, 0, 0, 0, 0, 0], ('T', 30)),
+    ] {
+        let bytes = bytes_of(rt.alloc(), 2, 0, &[HALT, row])?;
+        assert_eq!(rt; answer(decode(rt.alloc(), &bytes)), want, "row {}", row[0]);
+    }
+    Ok(())
+}
+
+/// Two instructions and ten handlers at the second one, but for the handler of an index, whose entry is given.
+fn handlers_but(alloc: Global, odd: usize, entry: u8) -> Result<Vec<u8>, AllocError> {
+    let mut bytes = Vec::new(alloc);
+    bytes.extend_from_slice(&[0, 2])?;
+    for index in 0..10usize {
+        bytes.extend_from_slice(&[0, if index == odd { entry } else { 1 }])?;
+    }
+    bytes.extend_from_slice(&HALT)?;
+    bytes.extend_from_slice(&HALT)?;
+    Ok(bytes)
+}
+
+#[test]
+fn ten_handlers_are_read(rt: HostRuntime) -> Result<(), Fail> {
+    for odd in 0..10u8 {
+        let bytes = handlers_but(rt.alloc(), odd as usize, 0)?;
+        match decode(rt.alloc(), &bytes) {
+            Ok(program) => {
+                for index in 0..10u8 {
+                    let want = if index == odd { 0 } else { 1 };
+                    assert_eq!(rt; program.handler(index), Some(want));
+                }
+                assert!(rt; encode(rt.alloc(), &program)?.as_slice() == bytes.as_slice());
+            }
+            Err(_) => assert!(rt; false),
+        }
+        let bytes = handlers_but(rt.alloc(), odd as usize, 2)?;
+        assert_eq!(rt;
+            answer(decode(rt.alloc(), &bytes)),
+            ('H', 2 + 2 * odd as usize)
+        );
     }
     Ok(())
 }
