@@ -12,7 +12,8 @@ pub record Code : Type 0 where
 abbrev pub no_code : Code
 no_code = record { instrs = []; handlers = [] }
 
--- The fields of an instruction among so many are in range. A row that is not built yet is no instruction of a program.
+-- The fields of an instruction among so many are in range; the first register to send is one of the 16 also where none is
+-- sent. A row that is not built yet is no instruction of a program.
 abbrev pub IsInstr : ℕ → Instr → Type 0
 IsInstr count (Const a n) = (a < 16) × (n < 2 ^ 16)
 IsInstr count (Mov a b) = (a < 16) × (b < 16)

@@ -95,7 +95,7 @@ fn is_in_range(instr: Instr) -> bool
 }
 
 /// Whether the instruction may stand among `count`, as the last one or not: a jump goes to one of them, and the last one
-/// ends.
+/// does not go on to a next one.
 fn may_stand(instr: Instr, count: u16, is_last: bool) -> bool
     ensures { result ≡ may_stand_lem count is_last instr }
 {
