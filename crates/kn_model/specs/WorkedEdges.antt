@@ -1,17 +1,20 @@
 -- Worked edges of the rules: the last instruction and the last input, what a failure choice changes, the order of events and of what is got, and which states are alike.
 use Rattle.std.specs.List.{AllByRecursion}
-use Rattle.std.specs.Prelude.{◌≡◌, ℕ, true, List, [], ◌∷◌, drop, map, replicate, Option, Some, None}
+use Rattle.std.specs.Prelude.{◌≡◌, ℕ, true, List, [], ◌∷◌, take, drop, map, Bool, false, replicate, Option, Some, None}
 use Rattle.std.specs.declared.cmp.Ordering.{Ordering}
 use Rattle.std.specs.declared.cmp.Ordering.TheVariants.{Less}
 use Rattle.kn_code.specs.declared.program.Instr.TheVariants as instrs
-use Rattle.kn_model.specs.Terms.{Term, Word, Input, Choice, terms}
+use Rattle.kn_model.specs.Terms.{Term, Word, Input, Choice, Given, Valuation, terms}
 use Rattle.kn_model.specs.Histories.{Event, Boot, Reboot, Mail, Timer, History, Done, AndRan, AndGot, history_cmp}
-use Rattle.kn_model.specs.Nodes.{State, Node, Running, Halted, Failed, Assert, Fuel, state_of}
+use Rattle.kn_model.specs.Nodes.{State, Node, Running, Halted, Failed, Outcome, Bounds, Assert, Fuel, state_of}
+use Rattle.kn_code.specs.Code.{Code}
 use Rattle.kn_model.specs.Nets.{Network}
 use Rattle.kn_model.specs.Due.{due, left}
 use Rattle.kn_model.specs.Rows.{Effect, Goes, effect}
 use Rattle.kn_model.specs.Paths.{event_paths}
-use Rattle.kn_model.specs.Scenarios.{Scenario}
+use Rattle.kn_model.specs.Scenarios.{Scenario, name_of, cob, node_at}
+use Rattle.kn_model.specs.Conditions.{holds}
+use Rattle.kn_model.specs.WorkedOneTick.{half, forcing, first_of}
 use Rattle.kn_model.specs.Replays.{record_of}
 use Rattle.kn_model.specs.Alikes.{Alike, MetAt}
 use Rattle.kn_model.specs.Concrete.{concrete, events}
@@ -53,12 +56,16 @@ NoChoice = event_paths terms lossy 1 1 (Mail 0 0 0) (chooser 65535)
 abbrev pub LastChoice : Type 0
 LastChoice = event_paths terms lossy 1 1 (Mail 0 0 0) (chooser 65534)
     ≡ (record {
-        bits = bit o; literals = is_not (Input 1 65534 1) ∷ []; sends = [];
-        state = record (chooser 65535) { queue = []; trace = bit o; own = is_not (Input 1 65534 1) ∷ [] };
-      } ∷ record {
-        bits = bit i; literals = is (Input 1 65534 1) ∷ []; sends = [];
-        state = record (chooser 65535) { queue = []; losses = 0; trace = bit i; own = is (Input 1 65534 1) ∷ [] };
-      } ∷ [])
+      bits = bit o;
+      literals = is_not (Input 1 65534 1) ∷ [];
+      sends = [];
+      state = record (chooser 65535) { queue = []; trace = bit o; own = is_not (Input 1 65534 1) ∷ [] };
+    } ∷ record {
+      bits = bit i;
+      literals = is (Input 1 65534 1) ∷ [];
+      sends = [];
+      state = record (chooser 65535) { queue = []; losses = 0; trace = bit i; own = is (Input 1 65534 1) ∷ [] };
+    } ∷ [])
 
 -- of each scenario at the last tick: what node 1 has made of inputs, and has left of losses and duplications
 abbrev pub counts_of : Network → List (List (List ℕ))
@@ -101,15 +108,23 @@ busy inputs = record (state_of terms 1 2 (1 ∷ [])) {
 abbrev pub RebootsBusy : Type 0
 RebootsBusy = event_paths terms rebooting 1 1 Reboot (busy 0)
     ≡ (record {
-        bits = bit o; literals = is_not (Input 1 0 1) ∷ []; sends = [];
-        state = record (busy 1) { reboots = []; trace = o ∷ o ∷ []; own = is (Input 0 0 1) ∷ is_not (Input 1 0 1) ∷ [] };
-      } ∷ record {
-        bits = bit i; literals = is (Input 1 0 1) ∷ []; sends = [];
-        state = record (busy 1) {
-          registers = replicate 16 (Word 0); memory = replicate 64 (Word 0); timers = Some 2 ∷ replicate 7 None;
-          reboots = []; trace = o ∷ i ∷ []; own = is (Input 0 0 1) ∷ is (Input 1 0 1) ∷ [];
-        };
-      } ∷ [])
+      bits = bit o;
+      literals = is_not (Input 1 0 1) ∷ [];
+      sends = [];
+      state = record (busy 1) { reboots = []; trace = o ∷ o ∷ []; own = is (Input 0 0 1) ∷ is_not (Input 1 0 1) ∷ [] };
+    } ∷ record {
+      bits = bit i;
+      literals = is (Input 1 0 1) ∷ [];
+      sends = [];
+      state = record (busy 1) {
+        registers = replicate 16 (Word 0);
+        memory = replicate 64 (Word 0);
+        timers = Some 2 ∷ replicate 7 None;
+        reboots = [];
+        trace = o ∷ i ∷ [];
+        own = is (Input 0 0 1) ∷ is (Input 1 0 1) ∷ [];
+      };
+    } ∷ [])
 
 -- with 65,535 inputs made it does not reboot, and that is decided
 abbrev pub NoReboot : Type 0
@@ -283,3 +298,73 @@ OtherValues = AllByRecursion IsOther (record base { queue = packet 0 1 3 (Word 5
 -- no scenario is met at a node that the net does not have
 abbrev pub NoSuchNode : Type 0
 NoSuchNode = (s : Scenario Term) → MetAt terms barely 0 2 s → ⊥
+
+-- after the net's last tick nothing changes
+abbrev pub NothingAfter : Type 0
+NothingAfter = cob terms relayed 5 ≡ cob terms relayed 3
+
+-- a reboot in tick 0: after boot, and where it comes boot runs once more, in the same event and with an input of its own
+abbrev pub reboots_first : Network
+reboots_first = net_of 1 (half ∷ []) (record { program = 0; loss = 0; duplicate = 0; reboot = 0 ∷ [] } ∷ []) []
+
+abbrev pub input_of : ℕ → Given
+input_of k = record { node = 0; index = k; word = 1 }
+
+abbrev pub RebootsFirstHistories : Type 0
+RebootsFirstHistories = histories reboots_first
+    ≡ ((AndRan Boot (bit o) (AndRan Reboot (bit o) Done) ∷ []) ∷ (AndRan Boot (bit o) (AndRan Reboot (i ∷ o ∷ []) Done) ∷ []) ∷ (AndRan Boot (bit o) (AndRan Reboot (i ∷ i ∷ []) Done) ∷ [])
+    ∷ (AndRan Boot (bit i) (AndRan Reboot (bit o) Done) ∷ []) ∷ (AndRan Boot (bit i) (AndRan Reboot (i ∷ o ∷ []) Done) ∷ []) ∷ (AndRan Boot (bit i) (AndRan Reboot (i ∷ i ∷ []) Done) ∷ []) ∷ [])
+
+abbrev pub RebootsFirstInputs : Type 0
+RebootsFirstInputs = forcing reboots_first
+    ≡ (((first_of 0 ∷ []) ∷ []) ∷ ((first_of 0 ∷ input_of 1 ∷ input_of 2 ∷ []) ∷ []) ∷ ((first_of 0 ∷ input_of 1 ∷ []) ∷ []) ∷ ([] ∷ []) ∷ ((input_of 1 ∷ input_of 2 ∷ []) ∷ []) ∷ ((input_of 1 ∷ []) ∷ []) ∷ [])
+
+-- an index that is an input of two bits, over three words of memory from place 1 on
+abbrev pub indexed : Network
+indexed = one_node 512 (instrs.Input 1 2 ∷ instrs.Const 2 7 ∷ instrs.Stx 2 1 1 3 ∷ instrs.Ldx 3 1 1 3 ∷ instrs.Ret ∷ [])
+
+abbrev pub index_is : ℕ → Valuation
+index_is w = record { node = 0; index = 0; word = w } ∷ []
+
+-- of the run: the outcome, register 3 and the first words of memory
+abbrev pub run_values : ℕ → List (List (Outcome × List ℕ × List ℕ))
+run_values w = map (λ (s : Scenario ℕ). map (λ (y : Node ℕ). (y.state.outcome, take 1 (drop 3 y.state.registers), take 5 y.state.memory)) s.nodes) (concrete indexed (index_is w) 1)
+
+abbrev pub IndexedOutcomes : Type 0
+IndexedOutcomes = outcomes indexed ≡ ((Running ∷ []) ∷ (Failed Bounds 3 0 ∷ []) ∷ (Failed Bounds 2 0 ∷ []) ∷ [])
+
+-- the last index that is in range, and the next one
+abbrev pub LastIndex : Type 0
+LastIndex = run_values 2 ≡ (((Running, 7 ∷ [], 0 ∷ 0 ∷ 0 ∷ 7 ∷ 0 ∷ []) ∷ []) ∷ [])
+
+abbrev pub IndexOut : Type 0
+IndexOut = run_values 3 ≡ (((Failed Bounds 2 0, 0 ∷ [], replicate 5 0) ∷ []) ∷ [])
+
+abbrev pub IndexedCovered : Type 0
+IndexedCovered = covered indexed (index_is 2) ≡ concrete indexed (index_is 2) 1
+
+-- an input is sent, and sent once more where it is not 0; the receiver counts the packets, and asserts that the word of one packet is 0
+abbrev pub sends_again : Code
+sends_again = program (Some 0) None None (instrs.Input 0 1 ∷ instrs.Send 0 0 1 ∷ instrs.Brz 0 4 ∷ instrs.Send 0 0 1 ∷ instrs.Ret ∷ [])
+
+abbrev pub counting : Code
+counting = program (Some 0) (Some 2) (Some 9)
+    (instrs.Timer 0 2 ∷ instrs.Ret ∷ instrs.Ld 1 0 ∷ instrs.Const 2 1 ∷ instrs.Add 1 1 2 ∷ instrs.St 0 1 ∷ instrs.Recvw 3 0 ∷ instrs.St 1 3 ∷ instrs.Ret
+    ∷ instrs.Ld 1 0 ∷ instrs.Const 2 1 ∷ instrs.Eq 1 1 2 ∷ instrs.Brz 1 17 ∷ instrs.Ld 3 1 ∷ instrs.Const 5 0 ∷ instrs.Eq 4 3 5 ∷ instrs.Assert 4 ∷ instrs.Ret ∷ [])
+
+abbrev pub nowhere : Network
+nowhere = net_of 3 (sends_again ∷ counting ∷ []) (plain 0 ∷ plain 1 ∷ []) (link 0 1 1 ∷ [])
+
+abbrev pub NowhereNames : Type 0
+NowhereNames = names nowhere ≡ ((bit o ∷ (o ∷ o ∷ []) ∷ []) ∷ (bit o ∷ (o ∷ i ∷ []) ∷ []) ∷ (bit o ∷ bit i ∷ []) ∷ (bit i ∷ (o ∷ o ∷ []) ∷ []) ∷ (bit i ∷ (o ∷ i ∷ []) ∷ []) ∷ (bit i ∷ bit i ∷ []) ∷ [])
+
+-- of each scenario under the input 1: whether the receiver's own condition holds, and whether the scenario's does
+abbrev pub holding : List (Bool × Bool)
+holding = map (λ (s : Scenario Term). (holds (one 0 0) (node_at terms s 1).state.own, holds (one 0 0) s.condition)) (last nowhere)
+
+-- the failed state has inputs of its own, and they make another scenario
+abbrev pub NowhereHolds : Type 0
+NowhereHolds = holding ≡ ((false, false) ∷ (false, false) ∷ (true, true) ∷ (false, false) ∷ (true, false) ∷ (false, false) ∷ [])
+
+abbrev pub NowhereRuns : Type 0
+NowhereRuns = (map name_of (concrete nowhere [] 3) ≡ ((bit i ∷ (o ∷ o ∷ []) ∷ []) ∷ [])) × (map name_of (concrete nowhere (one 0 0) 3) ≡ ((bit o ∷ bit i ∷ []) ∷ []))

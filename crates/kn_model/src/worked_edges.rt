@@ -1,6 +1,6 @@
 //! Worked edges of the rules, each by computation.
 
-ghost use Rattle.kn_model.specs.WorkedEdges.{AlikeOtherwise, AlikeReadingLess, ReadsMore, OtherCounts, OtherValues, NoSuchNode, BarelyNames, BarelyOutcomes, BcastLastThree, BcastNoLink, BcastTwoFit, BootDue, CopyLost, CountsLeft, DoubledCounts, DoubledNames, EndedDue, FuelAtAssert, FuelAtBranch, FuelPastBranch, HaltedEvents, HaltedHistories, HaltedQueues, HistoriesRise, LastChoice, LateDue, MailDue, NoChoice, NoLateBoot, NoReboot, RebootDue, RebootsBusy, RelayedCovered, RelayedHistories, RelayedNames, RelayedOwn, RelayedRecords, RelayedReplays, TimerDue};
+ghost use Rattle.kn_model.specs.WorkedEdges.{NothingAfter, RebootsFirstHistories, RebootsFirstInputs, IndexedOutcomes, LastIndex, IndexOut, IndexedCovered, NowhereNames, NowhereHolds, NowhereRuns, AlikeOtherwise, AlikeReadingLess, ReadsMore, OtherCounts, OtherValues, NoSuchNode, BarelyNames, BarelyOutcomes, BcastLastThree, BcastNoLink, BcastTwoFit, BootDue, CopyLost, CountsLeft, DoubledCounts, DoubledNames, EndedDue, FuelAtAssert, FuelAtBranch, FuelPastBranch, HaltedEvents, HaltedHistories, HaltedQueues, HistoriesRise, LastChoice, LateDue, MailDue, NoChoice, NoLateBoot, NoReboot, RebootDue, RebootsBusy, RelayedCovered, RelayedHistories, RelayedNames, RelayedOwn, RelayedRecords, RelayedReplays, TimerDue};
 
 /// An assertion as the last instruction that the fuel allows: the side that fails by it fails so, and the other one by fuel.
 pub fn fuel_at_assert()
@@ -103,4 +103,30 @@ pub fn not_alike()
 /// No scenario is met at a node that the net does not have.
 pub fn no_such_node()
     ensures { NoSuchNode }
+{}
+
+/// After the net's last tick nothing changes.
+pub fn nothing_after()
+    ensures { NothingAfter }
+{}
+
+/// A reboot in tick 0 is an event of its own after boot, and runs boot again.
+pub fn reboots_first()
+    ensures histories { RebootsFirstHistories }
+    ensures inputs { RebootsFirstInputs }
+{}
+
+/// Memory by an index: the last index that is in range, and the next one.
+pub fn indexed()
+    ensures outcomes { IndexedOutcomes }
+    ensures last { LastIndex }
+    ensures out { IndexOut }
+    ensures covered { IndexedCovered }
+{}
+
+/// A failed state with inputs of its own, in a scenario that no inputs meet.
+pub fn nowhere()
+    ensures names { NowhereNames }
+    ensures holding { NowhereHolds }
+    ensures runs { NowhereRuns }
 {}
