@@ -1,6 +1,6 @@
 -- Worked edges of the rules: the last instruction and the last input, what a failure choice changes, the order of events and of what is got, and which states are alike.
 use Rattle.std.specs.List.{AllByRecursion}
-use Rattle.std.specs.Prelude.{◌≡◌, ℕ, true, List, [], ◌∷◌, take, drop, map, Bool, false, replicate, Option, Some, None}
+use Rattle.std.specs.Prelude.{flat_map, ◌≡◌, ℕ, true, List, [], ◌∷◌, take, drop, map, Bool, false, replicate, Option, Some, None}
 use Rattle.std.specs.declared.cmp.Ordering.{Ordering}
 use Rattle.std.specs.declared.cmp.Ordering.TheVariants.{Less}
 use Rattle.kn_code.specs.declared.program.Instr.TheVariants as instrs
@@ -8,17 +8,18 @@ use Rattle.kn_model.specs.Terms.{Term, Word, Input, Choice, Given, Valuation, te
 use Rattle.kn_model.specs.Histories.{Event, Boot, Reboot, Mail, Timer, History, Done, AndRan, AndGot, history_cmp}
 use Rattle.kn_model.specs.Nodes.{State, Node, Running, Halted, Failed, Outcome, Bounds, Assert, Fuel, state_of}
 use Rattle.kn_code.specs.Code.{Code}
+use Rattle.kn_model.specs.Packets.{Packet}
 use Rattle.kn_model.specs.Nets.{Network}
 use Rattle.kn_model.specs.Due.{due, left}
 use Rattle.kn_model.specs.Rows.{Effect, Goes, effect}
 use Rattle.kn_model.specs.Paths.{event_paths}
-use Rattle.kn_model.specs.Scenarios.{Scenario, name_of, cob, node_at}
+use Rattle.kn_model.specs.Scenarios.{copies, finish, opening, Scenario, name_of, cob, node_at}
 use Rattle.kn_model.specs.Conditions.{holds}
-use Rattle.kn_model.specs.WorkedOneTick.{half, forcing, first_of}
+use Rattle.kn_model.specs.WorkedOneTick.{halves, half, forcing, first_of}
 use Rattle.kn_model.specs.Replays.{record_of}
-use Rattle.kn_model.specs.Alikes.{Alike, MetAt}
+use Rattle.kn_model.specs.Alikes.{IsStateOf, Alike, MetAt}
 use Rattle.kn_model.specs.Concrete.{concrete, events}
-use Rattle.kn_model.specs.Worked.{last, names, outcomes, owns, net_of, limited, one_node, program, plain, link, ping, ifsend, idle, five, lossy, rebooting, is, is_not, bit, o, i}
+use Rattle.kn_model.specs.Worked.{Name, last, names, outcomes, owns, net_of, limited, one_node, program, plain, link, ping, ifsend, idle, five, lossy, rebooting, is, is_not, bit, o, i}
 use Rattle.kn_model.specs.WorkedParts.{one, ran_at, covered, replays, all_nodes}
 use Rattle.kn_model.specs.WorkedChain.{relay}
 use Rattle.kn_model.specs.WorkedPackets.{packet, queues, here_with, counts_at, way_at, fails_with, effect_with}
@@ -368,3 +369,22 @@ NowhereHolds = holding ≡ ((false, false) ∷ (false, false) ∷ (true, true) �
 
 abbrev pub NowhereRuns : Type 0
 NowhereRuns = (map name_of (concrete nowhere [] 3) ≡ ((bit i ∷ (o ∷ o ∷ []) ∷ []) ∷ [])) × (map name_of (concrete nowhere (one 0 0) 3) ≡ ((bit o ∷ bit i ∷ []) ∷ []))
+
+-- the same of nodes that halted, doubled a packet, rebooted, and count their packets
+abbrev pub OtherReplays : Type 0
+OtherReplays = (replays halted ≡ all_nodes halted) × (replays doubling ≡ all_nodes doubling) × (replays reboots_first ≡ all_nodes reboots_first) × (replays nowhere ≡ all_nodes nowhere)
+
+-- a tick that is finished from the copies that the event of node 1 makes: the same scenarios in another order
+abbrev pub finished_from_second : List Name
+finished_from_second = map name_of (flat_map (finish terms (halves 1) 0) (copies terms (halves 1) 1 0 (opening terms (halves 1))))
+
+abbrev pub FinishedFromSecond : Type 0
+FinishedFromSecond = finished_from_second ≡ ((bit o ∷ bit o ∷ []) ∷ (bit i ∷ bit o ∷ []) ∷ (bit o ∷ bit i ∷ []) ∷ (bit i ∷ bit i ∷ []) ∷ [])
+
+-- node 1 with this queue, before it has run anything
+abbrev pub waiting : List (Packet Term) → State Term
+waiting q = record (state_of terms 1 0 []) { queue = q }
+
+-- after the event of node 0 it is met with the packet of this tick, which its state may have or not
+abbrev pub WaitingStates : Type 0
+WaitingStates = IsStateOf barely 1 (waiting (packet 0 1 1 [] ∷ [])) × IsStateOf barely 1 (waiting [])
