@@ -22,7 +22,7 @@ use Rattle.kn_model.specs.Concrete.{concrete, events}
 use Rattle.kn_model.specs.Worked.{Name, last, names, outcomes, owns, net_of, limited, one_node, program, plain, link, ping, ifsend, idle, five, lossy, rebooting, is, is_not, bit, o, i}
 use Rattle.kn_model.specs.WorkedParts.{one, ran_at, covered, replays, all_nodes}
 use Rattle.kn_model.specs.WorkedChain.{relay}
-use Rattle.kn_model.specs.WorkedPackets.{packet, queues, here_with, counts_at, way_at, fails_with, effect_with}
+use Rattle.kn_model.specs.WorkedPackets.{sends_both, packet, queues, here_with, counts_at, way_at, fails_with, effect_with}
 
 -- the last instruction is an assertion: one side fails by it, the other would execute one more
 abbrev pub FuelAtAssert : Type 0
@@ -388,3 +388,28 @@ waiting q = record (state_of terms 1 0 []) { queue = q }
 -- after the event of node 0 it is met with the packet of this tick, which its state may have or not
 abbrev pub WaitingStates : Type 0
 WaitingStates = IsStateOf barely 1 (waiting (packet 0 1 1 [] ∷ [])) × IsStateOf barely 1 (waiting [])
+
+-- a packet that is got is the one that was sent after the stamp's bits: one number, sent on both sides of a branch
+abbrev pub SendBothReplays : Type 0
+SendBothReplays = replays sends_both ≡ all_nodes sends_both
+
+-- a reboot that is decided leaves the later ones
+abbrev pub reboots_twice : Network
+reboots_twice = net_of 3 (half ∷ []) (record { program = 0; loss = 0; duplicate = 0; reboot = 0 ∷ 2 ∷ [] } ∷ []) []
+
+abbrev pub RebootsTwice : Type 0
+RebootsTwice = events reboots_twice [] ≡ (ran_at 0 0 Boot (bit i) ∷ ran_at 0 0 Reboot (bit o) ∷ ran_at 2 0 Reboot (bit o) ∷ [])
+
+-- node 0 sends at boot and at a timer; node 1 has two losses
+abbrev pub sends_twice : Network
+sends_twice = net_of 3 (program (Some 0) None (Some 3) (instrs.Timer 0 1 ∷ instrs.Send 0 0 0 ∷ instrs.Ret ∷ instrs.Send 0 0 0 ∷ instrs.Ret ∷ []) ∷ idle ∷ [])
+    (plain 0 ∷ record { program = 1; loss = 2; duplicate = 0; reboot = [] } ∷ []) (link 0 1 1 ∷ [])
+
+-- none lost, the second one, the first one, both
+abbrev pub TwoLosses : Type 0
+TwoLosses = counts_of sends_twice ≡ (((2 ∷ 2 ∷ 0 ∷ []) ∷ []) ∷ ((2 ∷ 1 ∷ 0 ∷ []) ∷ []) ∷ ((2 ∷ 1 ∷ 0 ∷ []) ∷ []) ∷ ((2 ∷ 0 ∷ 0 ∷ []) ∷ []) ∷ [])
+
+-- the second packet has the next number, and a stamp with the history of boot; all four have sent the same
+abbrev pub TwoStamps : Type 0
+TwoStamps = map (λ (s : Scenario Term). record_of s.nodes) (last sends_twice)
+    ≡ replicate 4 (record { node = 0; history = Done; bits = []; seq = 0 } ∷ record { node = 0; history = booted Done; bits = []; seq = 1 } ∷ [])

@@ -1,6 +1,6 @@
 //! Worked edges of the rules, each by computation.
 
-ghost use Rattle.kn_model.specs.WorkedEdges.{OtherReplays, FinishedFromSecond, WaitingStates, NothingAfter, RebootsFirstHistories, RebootsFirstInputs, IndexedOutcomes, LastIndex, IndexOut, IndexedCovered, NowhereNames, NowhereHolds, NowhereRuns, AlikeOtherwise, AlikeReadingLess, ReadsMore, OtherCounts, OtherValues, NoSuchNode, BarelyNames, BarelyOutcomes, BcastLastThree, BcastNoLink, BcastTwoFit, BootDue, CopyLost, CountsLeft, DoubledCounts, DoubledNames, EndedDue, FuelAtAssert, FuelAtBranch, FuelPastBranch, HaltedEvents, HaltedHistories, HaltedQueues, HistoriesRise, LastChoice, LateDue, MailDue, NoChoice, NoLateBoot, NoReboot, RebootDue, RebootsBusy, RelayedCovered, RelayedHistories, RelayedNames, RelayedOwn, RelayedRecords, RelayedReplays, TimerDue};
+ghost use Rattle.kn_model.specs.WorkedEdges.{TwoLosses, TwoStamps, SendBothReplays, RebootsTwice, OtherReplays, FinishedFromSecond, WaitingStates, NothingAfter, RebootsFirstHistories, RebootsFirstInputs, IndexedOutcomes, LastIndex, IndexOut, IndexedCovered, NowhereNames, NowhereHolds, NowhereRuns, AlikeOtherwise, AlikeReadingLess, ReadsMore, OtherCounts, OtherValues, NoSuchNode, BarelyNames, BarelyOutcomes, BcastLastThree, BcastNoLink, BcastTwoFit, BootDue, CopyLost, CountsLeft, DoubledCounts, DoubledNames, EndedDue, FuelAtAssert, FuelAtBranch, FuelPastBranch, HaltedEvents, HaltedHistories, HaltedQueues, HistoriesRise, LastChoice, LateDue, MailDue, NoChoice, NoLateBoot, NoReboot, RebootDue, RebootsBusy, RelayedCovered, RelayedHistories, RelayedNames, RelayedOwn, RelayedRecords, RelayedReplays, TimerDue};
 
 /// An assertion as the last instruction that the fuel allows: the side that fails by it fails so, and the other one by fuel.
 pub fn fuel_at_assert()
@@ -133,7 +133,13 @@ pub fn nowhere()
 
 /// Replaying a history of a node that halted, doubled a packet, rebooted, or counts its packets gives the node.
 pub fn other_replays()
-    ensures { OtherReplays }
+    ensures others { OtherReplays }
+    ensures both { SendBothReplays }
+{}
+
+/// Each reboot tick has its choice.
+pub fn reboots_twice()
+    ensures { RebootsTwice }
 {}
 
 /// A tick that is finished from the copies of another node's event has the same scenarios.
@@ -144,4 +150,10 @@ pub fn finished_from_second()
 /// A node that was sent a packet in this tick is met: its state may have the packet in its queue or not.
 pub fn waiting_states()
     ensures { WaitingStates }
+{}
+
+/// A loss is used by each packet that is lost; a record has the stamps of all sends, in whatever event.
+pub fn sends_twice()
+    ensures losses { TwoLosses }
+    ensures stamps { TwoStamps }
 {}
