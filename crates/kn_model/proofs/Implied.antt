@@ -1,5 +1,5 @@
 -- The condition of a network holds under the same inputs as the own conditions of its nodes together.
-use Rattle.std.proofs.Common.{◌≡◌, ℕ, zero, suc, ◌+◌, ◌<◌, Bool, true, false, cond, List, [], ◌∷◌, ◌++◌, length, map, flat_map, get_or, set, Option, Some, None, refl, sym, ap, subst, ◌∙◌, arith, append_assoc}
+use Rattle.std.proofs.Common.{◌≡◌, ℕ, zero, suc, ◌+◌, ◌<◌, ◌≤◌, Bool, true, false, cond, List, [], ◌∷◌, ◌++◌, length, map, flat_map, get_or, set, Option, Some, None, refl, sym, ap, subst, ◌∙◌, arith, append_assoc}
 use Rattle.std.specs.Prelude.{filter, nat_eq, Contains, ◌&&◌}
 use Rattle.std.specs.List.{AllByRecursion}
 use Rattle.std.proofs.lemmas.List.{length-set}
@@ -18,6 +18,7 @@ use Rattle.kn_model.specs.Concrete.{concrete, scenario_under, node_under}
 use Rattle.kn_model.specs.Deciding.{joined}
 use Rattle.kn_model.specs.Reports.{Report, Shows, RunShows, pick_condition}
 use Rattle.kn_model.specs.Laws.{IsNet}
+use Rattle.kn_model.specs.Alikes.{MetAt}
 use Rattle.kn_model.proofs.Lists.{all-append, all-map, all-filter, all-flat, all-weaker}
 use Rattle.kn_model.proofs.EachWay.{Kept, all_event_ways}
 use Rattle.kn_model.proofs.Naming.{opening_length}
@@ -195,7 +196,7 @@ module _ (a : Valuation) where
     turns_imply n zero inside s h = (h, tt)
     turns_imply n (suc fuel) inside s h = then_implies (turns terms net n t fuel) (turns_imply n fuel inside) (copies terms net n t s) (copies_imply n inside s h)
 
-    from_imply : (count n : ℕ) → n + count ≡ length net.nodes → (s : Scenario Term) → Implies (length net.nodes) s → All (settled_from terms net t n count s)
+    from_imply : (count n : ℕ) → n + count ≤ length net.nodes → (s : Scenario Term) → Implies (length net.nodes) s → All (settled_from terms net t n count s)
     from_imply zero n e s h = (h, tt)
     from_imply (suc count) n e s h =
         then_implies (settled_from terms net t (n + 1) count) (from_imply count (n + 1) (omega (arith, e))) (settled terms net t n s)
@@ -239,6 +240,20 @@ module _ (a : Valuation) where
       then_implies net t good (finish terms net t)
       (λ s h. all-map (Implies (length net.nodes)) (Implies (length net.nodes)) close (close_implies (length net.nodes)) (rest_of_tick terms net t s) (from_imply net t good (length net.nodes) 0 (omega arith) s h))
       (cob terms net t) (members_imply net t good)
+
+  -- what is met within a tick
+  met_implies : (net : Network) (t n : ℕ) (s : Scenario Term) (good : IsNet net) → MetAt terms net t n s → Implies (length net.nodes) s
+  met_implies net t n s good m =
+      let start = all-contains (Implies (length net.nodes)) (cob terms net t) m.start (members_imply net t good) m.member in
+      let inside = m.inside in
+      let before = all-contains (Implies (length net.nodes)) (settled_from terms net t 0 n m.start) m.before (from_imply net t good n 0 (omega (arith, inside)) m.start start) m.reached in
+      all-contains (Implies (length net.nodes)) (turns terms net n t m.count m.before) s (turns_imply net t good n m.count m.inside m.before before) m.turned
+
+  -- its condition implies each node's own condition
+  pub met_own_implied : (net : Network) (t n : ℕ) (s : Scenario Term) (y : Node Term) → IsNet net → MetAt terms net t n s → Contains s.nodes y → holds a s.condition ≡ true → holds a y.state.own ≡ true
+  met_own_implied net t n s y good m d h =
+      let node : NodeHolds y = all-contains NodeHolds s.nodes y ((met_implies net t n s good m).each h) d in
+      node.0
 
   -- a member's condition implies each node's own condition
   pub own_implied : (net : Network) (t : ℕ) (s : Scenario Term) (y : Node Term) → IsNet net → Contains (cob terms net t) s → Contains s.nodes y → holds a s.condition ≡ true → holds a y.state.own ≡ true

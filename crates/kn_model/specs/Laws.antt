@@ -10,7 +10,7 @@ use Rattle.kn_model.specs.Histories.{Event, History, followed}
 use Rattle.kn_model.specs.Packets.{Packet, Parcel, put_all, packet_le}
 use Rattle.kn_model.specs.Nodes.{State, Node}
 use Rattle.kn_model.specs.Nets.{Network, Link}
-use Rattle.kn_model.specs.Due.{due, left}
+use Rattle.kn_model.specs.Due.{due, held, left}
 use Rattle.kn_model.specs.Paths.{Path, event_paths}
 use Rattle.kn_model.specs.Scenarios.{Scenario, name_of, cob, copies, finish, receive, node_at, settled}
 use Rattle.kn_model.specs.Conditions.{Condition, holds, that, that_with, IsImpossible, IsLeast}
@@ -18,7 +18,7 @@ use Rattle.kn_model.specs.Deciding.{IsPlain, clashes, forced}
 use Rattle.kn_model.specs.Concrete.{concrete, scenario_under, path_under, state_under}
 use Rattle.kn_model.specs.Reports.{Rises, trace_cmp, ends, pick_condition}
 use Rattle.kn_model.specs.Replays.{node_of, own_of}
-use Rattle.kn_model.specs.Alikes.{seen}
+use Rattle.kn_model.specs.Alikes.{MetAt, seen}
 use Rattle.kn_model.specs.Picks.{SameItems}
 
 -- a state with these packets in its queue
@@ -106,6 +106,10 @@ HistoriesTell = (net : Network) (t n : ℕ) (s : Scenario Term) (y : Node Term) 
 abbrev pub OwnImplied : Type 0
 OwnImplied = (net : Network) (a : Valuation) (t : ℕ) (s : Scenario Term) (y : Node Term) → IsNet net → Contains (cob terms net t) s → Contains s.nodes y → holds a s.condition ≡ true → holds a y.state.own ≡ true
 
+-- And so it does of each scenario that is met while a tick is run.
+abbrev pub OwnImpliedWithin : Type 0
+OwnImpliedWithin = (net : Network) (a : Valuation) (t n : ℕ) (s : Scenario Term) (y : Node Term) → IsNet net → MetAt terms net t n s → Contains s.nodes y → holds a s.condition ≡ true → holds a y.state.own ≡ true
+
 -- And it asks no more than the own conditions of all nodes together.
 abbrev pub ConditionIsOwn : Type 0
 ConditionIsOwn = (net : Network) (a : Valuation) (t : ℕ) (s : Scenario Term) → IsNet net → Contains (cob terms net t) s → holds a s.condition ≡ holds a (pick_condition s.nodes)
@@ -122,6 +126,11 @@ BeginningImplied = (net : Network) (a : Valuation) (n : ℕ) (h more : History) 
 abbrev pub FallingWork : Type 0
 FallingWork = (net : Network) (n t : ℕ) (e : Event) (s : State Term) → IsNet net → due net.limits.ticks t s ≡ Some e
     → AllByRecursion (λ (p : Path Term). left net.limits.ticks t p.state < left net.limits.ticks t s) (event_paths terms net n t e s)
+
+-- This is so however the events of a node that ended are counted: also those that it will not run fall.
+abbrev pub FallingHeld : Type 0
+FallingHeld = (net : Network) (n t : ℕ) (e : Event) (s : State Term) → IsNet net → due net.limits.ticks t s ≡ Some e
+    → AllByRecursion (λ (p : Path Term). held t p.state < held t s) (event_paths terms net n t e s)
 
 -- What a node sends is from it, is no copy, and arrives later.
 abbrev pub IsSentBy : ℕ → ℕ → Packet Term → Type 0
