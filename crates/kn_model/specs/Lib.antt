@@ -25,3 +25,4 @@ pub mod WorkedReport
 pub mod WorkedChain
 pub mod WorkedOneTick
 pub mod WorkedPackets
+pub mod WorkedLimits
