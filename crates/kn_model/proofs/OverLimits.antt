@@ -1,35 +1,28 @@
 -- Limits of the worked networks that are passed, or just kept.
-use Rattle.std.proofs.Common.{◌≡◌, ◌⊎◌, inl, inr, ℕ, zero, suc, ◌+◌, ◌<◌, ◌≤◌, Bool, true, false, List, [], ◌∷◌, ◌++◌, length, map, Some, None, Option, refl, sym, ap, subst, ◌∙◌, arith}
-use Rattle.std.specs.Prelude.{Contains, slice_get, slice_index_or, slice_set, flat_map, ◌↔◌}
+use Rattle.std.proofs.Common.{◌≡◌, ℕ, zero, suc, ◌<◌, true, false, List, [], ◌∷◌, length, map, refl, sym, ap, subst, ◌∙◌, arith}
+use Rattle.std.specs.Prelude.{Contains, slice_index_or}
 use Rattle.std.specs.List.{AllByRecursion}
-use Rattle.std.specs.Cmp.Lexicographic.{slice_cmp}
-use Rattle.std.proofs.lemmas.List.{length-set, length-map}
+use Rattle.std.proofs.lemmas.List.{length-map}
 use Rattle.kn_model.specs.Terms.{Term, Input, Valuation, terms}
-use Rattle.kn_model.specs.Histories.{History, Event, Boot, Done, AndRan, Stamp}
-use Rattle.kn_model.specs.Nodes.{Node}
-use Rattle.kn_model.specs.Nets.{Network, opening_node, no_plan}
-use Rattle.kn_model.specs.Due.{due}
-use Rattle.kn_model.specs.Paths.{Path, paths, parcels, node_after, event_paths}
-use Rattle.kn_model.specs.Scenarios.{Scenario, name_of, opening, pre, cob, node_at, copies, copies_of, copied, turns, settled_from, settled}
-use Rattle.kn_model.specs.Conditions.{Condition, Query, that, IsLive, AreDistinct}
+use Rattle.kn_model.specs.Histories.{Done, Stamp}
+use Rattle.kn_model.specs.Scenarios.{Scenario, name_of, pre}
+use Rattle.kn_model.specs.Conditions.{Query, that, IsLive, AreDistinct}
 use Rattle.kn_model.specs.Replays.{record_of, SameSet}
-use Rattle.kn_model.specs.Reports.{Rises, trace_cmp}
-use Rattle.kn_model.specs.Limits.{Place, StandsIn, TooManyPlaces, TooManyPaths, IsPrefix, Begins, NoneBegins, AllLive, RecordsDiffer}
-use Rattle.kn_model.specs.Worked.{is, is_not, i, o}
+use Rattle.kn_model.specs.Limits.{AllLive, RecordsDiffer}
+use Rattle.kn_model.specs.Worked.{is, is_not, o}
 use Rattle.kn_model.specs.WorkedOneTick.{first_of}
-use Rattle.kn_model.specs.WorkedLimits.{one_half, two_halves, one_sends, PlacesOver, PrefixesOver, PlacesKept, CopiesOver, CopiesKept, RecordsKept, RecordsOver}
+use Rattle.kn_model.specs.WorkedLimits.{two_halves, one_sends, CopiesOver, CopiesKept, RecordsKept, RecordsOver}
 use Rattle.kn_model.proofs.Counting.{at_most}
 use Rattle.kn_model.proofs.Implied.{all-contains}
-use Rattle.kn_model.proofs.Lists.{all-map, all-weaker, all-flat}
+use Rattle.kn_model.proofs.Lists.{all-map, all-weaker}
 use Rattle.kn_model.proofs.Rising.{names_distinct}
-use Rattle.kn_model.proofs.Settling.{length-posted}
 
 -- what some inputs meet is live
-live_by : (most : ℕ) (q : Query) (a : Valuation) → q.meets a ≡ true → IsLive most q
+pub live_by : (most : ℕ) (q : Query) (a : Valuation) → q.meets a ≡ true → IsLive most q
 live_by most q a h never small = let wrong : true ≡ false = sym h ∙ never a in cc
 
 -- members of a list, all
-itself : {A : Type 0} (xs : List A) → AllByRecursion (Contains xs) xs
+pub itself : {A : Type 0} (xs : List A) → AllByRecursion (Contains xs) xs
 itself [] = tt
 itself {A} (x ∷ xs) = ((0, omega arith, refl), all-weaker (Contains xs) (Contains (x ∷ xs)) (λ y c. let k = c.1 in (suc c.0, omega (arith, k), c.2)) xs (itself xs))
 

@@ -1,9 +1,9 @@
 -- Small and far conditions, and limits that are passed or just kept, on small examples; each row says that a definition holds or that it does not.
-use Rattle.std.specs.Prelude.{ℕ, List, [], ◌∷◌, Some, None}
+use Rattle.std.specs.Prelude.{ℕ, List, [], ◌∷◌}
 use Rattle.kn_word.specs.declared.Op.TheVariants as ops
-use Rattle.kn_model.specs.Terms.{Term, Word, Input, Apply}
+use Rattle.kn_model.specs.Terms.{Word, Input, Apply}
 use Rattle.kn_model.specs.Nets.{Network, Plan}
-use Rattle.kn_model.specs.Conditions.{Condition, Query, that, IsSmall, IsLive, IsFar}
+use Rattle.kn_model.specs.Conditions.{Query, that, IsSmall, IsLive, IsFar}
 use Rattle.kn_model.specs.Limits.{States, Dstates, IsOver, IsOverCopied}
 use Rattle.kn_model.specs.Worked.{is, is_not, plain, link, ifsend, idle}
 use Rattle.kn_model.specs.WorkedOneTick.{half}
