@@ -52,14 +52,18 @@ places_over = inl (record {
       with_history = refl;
       live = live_by 65536 (that (is (Input 0 0 1) ∷ [])) (first_of 0 ∷ []) refl;
     },
-    (record {
-      scenario = slice_index_or (pre terms (one_half 1) 0) 1 (opening terms (one_half 1));
-      member = (1, omega arith, refl);
-      node = node_at terms (slice_index_or (pre terms (one_half 1) 0) 1 (opening terms (one_half 1))) 0;
-      there = refl;
-      with_history = refl;
-      live = live_by 65536 (that (is_not (Input 0 0 1) ∷ [])) [] refl;
-    }, tt));
+    (
+      record {
+        scenario = slice_index_or (pre terms (one_half 1) 0) 1 (opening terms (one_half 1));
+        member = (1, omega arith, refl);
+        node = node_at terms (slice_index_or (pre terms (one_half 1) 0) 1 (opening terms (one_half 1))) 0;
+        there = refl;
+        with_history = refl;
+        live = live_by 65536 (that (is_not (Input 0 0 1) ∷ [])) [] refl;
+      },
+      tt,
+    ),
+  );
 })
 
 abbrev begin : ℕ → Scenario Term
@@ -80,10 +84,11 @@ prefixes_over = record {
   there = refl;
   prefixes = (o ∷ []) ∷ (i ∷ []) ∷ [];
   many = omega arith;
-  apart = ((λ h. elim h [ | inl b ↦ cc_of b.1 | inr b ↦ cc_of (sym b.1) ], tt), (tt, tt));
+  apart = ((λ h. elim h [ inl b ↦ cc_of b.1 | inr b ↦ cc_of (sym b.1) ], tt), (tt, tt));
   each = (
     record { path = slice_index_or (both_paths 1) 0 no_path; member = (0, omega arith, refl); rest = []; begins = refl; live = live_by 65536 (that (is (Input 0 0 1) ∷ [])) (first_of 0 ∷ []) refl },
-    (record { path = slice_index_or (both_paths 1) 1 no_path; member = (1, omega arith, refl); rest = []; begins = refl; live = live_by 65536 (that (is_not (Input 0 0 1) ∷ [])) [] refl }, tt));
+    (record { path = slice_index_or (both_paths 1) 1 no_path; member = (1, omega arith, refl); rest = []; begins = refl; live = live_by 65536 (that (is_not (Input 0 0 1) ∷ [])) [] refl }, tt),
+  );
 }
   where
     cc_of : {xs ys : List Bool} → (i ∷ xs) ≡ (o ∷ ys) → ⊥
@@ -115,12 +120,16 @@ few_places list h over =
     omega (arith, few, many)
 
 before_close : AllByRecursion OnePlace (pre terms (one_half 2) 0)
-before_close = ((node_at terms (slice_index_or (pre terms (one_half 2) 0) 0 (begin 2)) 0, refl, (0, omega arith, refl)),
-    ((node_at terms (slice_index_or (pre terms (one_half 2) 0) 1 (begin 2)) 0, refl, (1, omega arith, refl)), tt))
+before_close = (
+  (node_at terms (slice_index_or (pre terms (one_half 2) 0) 0 (begin 2)) 0, refl, (0, omega arith, refl)),
+  ((node_at terms (slice_index_or (pre terms (one_half 2) 0) 1 (begin 2)) 0, refl, (1, omega arith, refl)), tt),
+)
 
 after_close : AllByRecursion OnePlace (cob terms (one_half 2) 1)
-after_close = ((node_at terms (slice_index_or (cob terms (one_half 2) 1) 0 (begin 2)) 0, refl, (0, omega arith, refl)),
-    ((node_at terms (slice_index_or (cob terms (one_half 2) 1) 1 (begin 2)) 0, refl, (1, omega arith, refl)), tt))
+after_close = (
+  (node_at terms (slice_index_or (cob terms (one_half 2) 1) 0 (begin 2)) 0, refl, (0, omega arith, refl)),
+  ((node_at terms (slice_index_or (cob terms (one_half 2) 1) 1 (begin 2)) 0, refl, (1, omega arith, refl)), tt),
+)
 
 -- ---- what is met in the tick
 
@@ -159,7 +168,7 @@ stays : (net : Network) (n t fuel : ℕ) (s : Scenario Term) → due net.limits.
 stays net n t zero s e = refl
 stays net n t (suc fuel) s e = ap (λ (x : Option Event). flat_map (turns terms net n t fuel) (copies_of terms net n t s x)) e ∙ ap (λ (ss : List (Scenario Term)). ss ++ []) (stays net n t fuel s e)
 
-the_only : {A : Type 0} (x y : A) → Contains (x ∷ []) y → x ≡ y
+pub the_only : {A : Type 0} (x y : A) → Contains (x ∷ []) y → x ≡ y
 the_only {A} x y c = go c.0 c.1 c.2
   where
     go : (k : ℕ) → k < 1 → slice_index_or (x ∷ []) k y ≡ y → x ≡ y
@@ -242,7 +251,7 @@ few_paths over = go over.number refl
         → AllByRecursion (IsPrefix 65536 y.state (paths terms (one_half 2) n 0 y.state)) ps → NoneBegins ps → 2 < length ps → ⊥
     kept n s y ps one each apart many =
         two_apart ps (all-weaker (IsPrefix 65536 y.state (paths terms (one_half 2) n 0 y.state)) IsShort
-            (λ bits p. short_by bits p.rest (ap length (sym p.begins) ∙ all-contains OneBit (paths terms (one_half 2) n 0 y.state) p.path one p.member)) ps each) apart many
+        (λ bits p. short_by bits p.rest (ap length (sym p.begins) ∙ all-contains OneBit (paths terms (one_half 2) n 0 y.state) p.path one p.member)) ps each) apart many
 
     one_bit : (y : Node Term) → (node_at terms over.scenario 0 ≡ y) → Bare over.scenario → AllByRecursion OneBit (paths terms (one_half 2) 0 0 y.state)
     one_bit y e (inl b) = subst (λ (z : Node Term). AllByRecursion OneBit (paths terms (one_half 2) 0 0 z.state)) (ap (λ (u : Scenario Term). node_at terms u 0) b ∙ e) (refl, (refl, tt))

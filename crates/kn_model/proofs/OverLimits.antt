@@ -26,7 +26,7 @@ pub itself : {A : Type 0} (xs : List A) → AllByRecursion (Contains xs) xs
 itself [] = tt
 itself {A} (x ∷ xs) = ((0, omega arith, refl), all-weaker (Contains xs) (Contains (x ∷ xs)) (λ y c. let k = c.1 in (suc c.0, omega (arith, k), c.2)) xs (itself xs))
 
-of_map : {A B : Type 0} (f : A → B) (xs : List A) (x : A) → Contains xs x → Contains (map f xs) (f x)
+pub of_map : {A B : Type 0} (f : A → B) (xs : List A) (x : A) → Contains xs x → Contains (map f xs) (f x)
 of_map {A} f xs x c = go xs c.0 c.1 c.2
   where
     go : (ys : List A) (k : ℕ) → k < length ys → slice_index_or ys k x ≡ x → Contains (map f ys) (f x)

@@ -26,3 +26,4 @@ pub mod WorkedChain
 pub mod WorkedOneTick
 pub mod WorkedPackets
 pub mod WorkedLimits
+pub mod WorkedCores

@@ -1,0 +1,37 @@
+//! What a core stands for, on small cores.
+
+ghost use Rattle.kn_model.specs.WorkedCores.{OpeningStands, Crossed, Unsent, Doubled, Unplaced, NotLeast, Marked, NotDrawn, StoppedEarly, LeftOut};
+
+/// The opening core of two nodes that branch once stands.
+pub fn opening_stands()
+    ensures { OpeningStands }
+{}
+
+/// A core does not stand where a possible scenario is left out.
+pub fn left_out()
+    ensures { LeftOut }
+{}
+
+/// Nor where two states have one node and history.
+pub fn doubled()
+    ensures { Doubled }
+{}
+
+/// Nor where a state has inputs that are not the least, or a mark without a far condition.
+pub fn standing()
+    ensures not_least { NotLeast }
+    ensures marked { Marked }
+{}
+
+/// Nor where a column holds a state of another node, an inbox a packet that was not sent, or no dstate a state that is not held.
+pub fn columns()
+    ensures crossed { Crossed }
+    ensures unsent { Unsent }
+    ensures unplaced { Unplaced }
+{}
+
+/// Nor where a serial was not drawn, or the limit that stopped it was kept.
+pub fn counts()
+    ensures not_drawn { NotDrawn }
+    ensures stopped { StoppedEarly }
+{}
