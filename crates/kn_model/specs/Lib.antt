@@ -27,3 +27,4 @@ pub mod WorkedOneTick
 pub mod WorkedPackets
 pub mod WorkedLimits
 pub mod WorkedCores
+pub mod WorkedReports
