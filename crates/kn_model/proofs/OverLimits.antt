@@ -74,7 +74,7 @@ copies_kept over =
 nothing_sent : AllByRecursion (λ (s : Scenario Term). record_of s.nodes ≡ []) (pre terms (two_halves 1) 0)
 nothing_sent = (refl, (refl, (refl, (refl, tt))))
 
-same_if_none : (xs ys : List Stamp) → xs ≡ [] → ys ≡ [] → SameSet xs ys
+pub same_if_none : (xs ys : List Stamp) → xs ≡ [] → ys ≡ [] → SameSet xs ys
 same_if_none xs ys e f = subst (SameSet xs) (e ∙ sym f) (λ x. (λ c. c, λ c. c))
 
 pub records_kept : RecordsKept

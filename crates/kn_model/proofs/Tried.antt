@@ -59,10 +59,10 @@ large_from w = go (nat_lt w 200) refl
     go true e h = absurd cc
     go false e h = ltb-false w 200 e
 
-less_is : (w v : ℕ) → w < v → ComesBefore (w ∷ []) (v ∷ [])
+pub less_is : (w v : ℕ) → w < v → ComesBefore (w ∷ []) (v ∷ [])
 less_is w v h = rw (lt-ltb w v h) refl
 
-less_was : (w v : ℕ) → ComesBefore (w ∷ []) (v ∷ []) → w < v
+pub less_was : (w v : ℕ) → ComesBefore (w ∷ []) (v ∷ []) → w < v
 less_was w v = go (nat_lt w v) refl (nat_eq w v)
   where
     go : (b : Bool) → nat_lt w v ≡ b → (c : Bool) → ordering_then (cond b Less (cond c Equal Greater)) Equal ≡ Less → w < v
