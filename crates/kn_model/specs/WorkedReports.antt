@@ -1,12 +1,12 @@
 -- What a report says, on a node that fails where its input is not 0 and on two nodes that branch: reports that are given or sharp, and others that are not.
-use Rattle.std.specs.Prelude.{ℕ, List, [], ◌∷◌, Some, None}
+use Rattle.std.specs.Prelude.{ℕ, Bool, List, [], ◌∷◌, Some, None}
 use Rattle.kn_code.specs.declared.program.Instr.TheVariants as instrs
 use Rattle.kn_model.specs.Terms.{Valuation}
 use Rattle.kn_model.specs.Nodes.{Running, Failed, Assert}
 use Rattle.kn_model.specs.Nets.{Network}
 use Rattle.kn_model.specs.Conditions.{Standing, Inputs, Open}
-use Rattle.kn_model.specs.Reports.{Report, StateLine, FailureLine, Reach, At, Undecided, Nowhere, Sds, Gives, IsSharp}
-use Rattle.kn_model.specs.Worked.{program, plain, i, o}
+use Rattle.kn_model.specs.Reports.{Report, StateLine, FailureLine, Reach, At, Undecided, Nowhere, Sds, Cob, Gives, IsSharp}
+use Rattle.kn_model.specs.Worked.{program, net_of, plain, link, early, i, o}
 use Rattle.kn_model.specs.WorkedOneTick.{first_of, halves}
 
 -- one node with an input of 2 bits; where it is not 0 the assertion on register 1, which is 0, fails
@@ -86,3 +86,38 @@ SharpHalves = IsSharp (halves_told (((0 ∷ 1 ∷ []) ∷ (2 ∷ 3 ∷ []) ∷ [
 -- four dstates for them
 abbrev pub NotSharpHalves : Type 0
 NotSharpHalves = IsSharp (halves_told (((0 ∷ []) ∷ (2 ∷ []) ∷ []) ∷ ((0 ∷ []) ∷ (3 ∷ []) ∷ []) ∷ ((1 ∷ []) ∷ (2 ∷ []) ∷ []) ∷ ((1 ∷ []) ∷ (3 ∷ []) ∷ []) ∷ [])) (halves 1) → ⊥
+
+-- a node that sends its input and then branches on it, and a receiver that asserts what it is sent
+abbrev pub crossing : Network
+crossing = net_of 2 (early ∷ program None (Some 0) None (instrs.Recvw 0 0 ∷ instrs.Assert 0 ∷ instrs.Ret ∷ []) ∷ []) (plain 0 ∷ plain 1 ∷ []) (link 0 1 1 ∷ [])
+
+-- the sender after a bit, and the receiver where it goes on and where it fails
+abbrev pub sender : Bool → Valuation → StateLine
+sender b a = record { node = 0; trace = b ∷ []; outcome = Running; standing = Inputs a }
+
+abbrev pub passing : StateLine
+passing = record { node = 1; trace = o ∷ []; outcome = Running; standing = Inputs (input 1) }
+
+abbrev pub failing : StateLine
+failing = record { node = 1; trace = i ∷ []; outcome = Failed Assert 1 1; standing = Inputs [] }
+
+-- All four scenarios, copied. In the second one the sender's input is 1 and the receiver's word is 0, and in the third the other way round.
+abbrev pub copied_told : Reach → Report
+copied_told second = record {
+  mapping = Cob;
+  ticks = 2;
+  nodes = 2;
+  states =
+      sender o (input 1) ∷ passing ∷ sender o (input 1) ∷ failing
+      ∷ sender i [] ∷ passing ∷ sender i [] ∷ failing ∷ [];
+  dstates = ((0 ∷ []) ∷ (1 ∷ []) ∷ []) ∷ ((2 ∷ []) ∷ (3 ∷ []) ∷ []) ∷ ((4 ∷ []) ∷ (5 ∷ []) ∷ []) ∷ ((6 ∷ []) ∷ (7 ∷ []) ∷ []) ∷ [];
+  failures = record { state = 3; reach = second } ∷ record { state = 7; reach = At 3 (6 ∷ 7 ∷ []) [] } ∷ [];
+}
+
+-- no inputs meet the failure of the second one, though each node's own condition can be met
+abbrev pub NowhereGiven : Type 0
+NowhereGiven = Gives (copied_told Nowhere) crossing
+
+-- so it is not open
+abbrev pub NowhereNotOpen : Type 0
+NowhereNotOpen = Gives (copied_told Undecided) crossing → ⊥

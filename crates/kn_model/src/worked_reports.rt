@@ -1,6 +1,6 @@
 //! What a report says, on a node that fails where its input is not 0 and on two nodes that branch.
 
-ghost use Rattle.kn_model.specs.WorkedReports.{ReachedGiven, OpenGiven, OpenNotGiven, UndecidedNotGiven, NowhereNotGiven, StateNotLeast, FailureNotLeast, NoFailureLine, SharpHalves, NotSharpHalves};
+ghost use Rattle.kn_model.specs.WorkedReports.{ReachedGiven, OpenGiven, OpenNotGiven, UndecidedNotGiven, NowhereNotGiven, StateNotLeast, FailureNotLeast, NoFailureLine, NowhereGiven, NowhereNotOpen, SharpHalves, NotSharpHalves};
 
 /// A failure is reached on its least inputs, and on no others, and not left out.
 pub fn reached()
@@ -17,9 +17,11 @@ pub fn left_open()
     ensures failure { UndecidedNotGiven }
 {}
 
-/// A failure that some inputs meet is not nowhere.
+/// A failure is nowhere where no inputs meet its scenario, though they meet each node, and not where some do.
 pub fn nowhere()
-    ensures { NowhereNotGiven }
+    ensures given { NowhereGiven }
+    ensures not_open { NowhereNotOpen }
+    ensures met { NowhereNotGiven }
 {}
 
 /// One dstate of two columns is sharp, and four dstates that sent the same are not.
