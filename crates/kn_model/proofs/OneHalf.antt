@@ -164,7 +164,7 @@ module _ (net : Network) (t : ℕ) (count : ℕ) where
   from_fit n (suc more) s f = then_fit (settled_from terms net t (n + 1) more) (from_fit (n + 1) more) (settled terms net t n s) (turns_fit n (left net.limits.ticks t (node_at terms s n).state) s f)
 
 -- where nothing is due, nothing comes
-stays : (net : Network) (n t fuel : ℕ) (s : Scenario Term) → due net.limits.ticks t (node_at terms s n).state ≡ None → turns terms net n t fuel s ≡ s ∷ []
+pub stays : (net : Network) (n t fuel : ℕ) (s : Scenario Term) → due net.limits.ticks t (node_at terms s n).state ≡ None → turns terms net n t fuel s ≡ s ∷ []
 stays net n t zero s e = refl
 stays net n t (suc fuel) s e = ap (λ (x : Option Event). flat_map (turns terms net n t fuel) (copies_of terms net n t s x)) e ∙ ap (λ (ss : List (Scenario Term)). ss ++ []) (stays net n t fuel s e)
 

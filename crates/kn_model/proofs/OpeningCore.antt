@@ -19,7 +19,7 @@ use Rattle.kn_model.proofs.OneHalf.{the_only}
 use Rattle.kn_model.proofs.OverLimits.{itself, of_map, records_kept}
 use Rattle.kn_model.proofs.Rising.{names_distinct}
 
-alike_self : (s : State Term) → Alike s s
+pub alike_self : (s : State Term) → Alike s s
 alike_self s = record {
   traces = refl;
   outcomes = refl;
@@ -38,11 +38,11 @@ alike_self s = record {
   reads = λ r c. c;
 }
 
-same_nodes : (ys : List (Node Term)) → AreSameNodes ys ys
+pub same_nodes : (ys : List (Node Term)) → AreSameNodes ys ys
 same_nodes [] = tt
 same_nodes (y ∷ ys) = (record { states = alike_self y.state; histories = refl; fresh = λ x. (λ c. c, λ c. c) }, same_nodes ys)
 
-same_self : (s : Scenario Term) → IsSame s s
+pub same_self : (s : Scenario Term) → IsSame s s
 same_self s = record { nodes = same_nodes s.nodes; conditions = λ a. refl }
 
 abbrev ended : List (Scenario Term)
@@ -109,7 +109,7 @@ state_of zero h = (first, refl, refl)
 state_of (suc zero) h = (second, refl, refl)
 state_of (suc (suc n)) h = absurd (omega (arith, h))
 
-one_distinct : (n : ℕ) → AreDistinct (n ∷ [])
+pub one_distinct : (n : ℕ) → AreDistinct (n ∷ [])
 one_distinct n = (λ c. let none = c.1 in omega (arith, none), tt)
 
 fits : FitsColumns opening_core the_dstate

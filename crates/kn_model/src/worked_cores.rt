@@ -1,10 +1,18 @@
 //! What a core stands for, on small cores.
 
-ghost use Rattle.kn_model.specs.WorkedCores.{OpeningStands, Crossed, Unsent, Doubled, Unplaced, NotLeast, Marked, NotDrawn, StoppedEarly, LeftOut};
+ghost use Rattle.kn_model.specs.WorkedCores.{OpeningStands, Crossed, Unsent, Doubled, Unplaced, NotLeast, Marked, NotDrawn, StoppedEarly, LeftOut, SentStands, OneForBoth, NotInInbox, OtherEvent};
 
 /// The opening core of two nodes that branch once stands.
 pub fn opening_stands()
     ensures { OpeningStands }
+{}
+
+/// A core with a packet in an inbox and an open ticket stands; with one dstate, an empty inbox or another event it does not.
+pub fn sent_stands()
+    ensures stands { SentStands }
+    ensures one_for_both { OneForBoth }
+    ensures not_in_inbox { NotInInbox }
+    ensures other_event { OtherEvent }
 {}
 
 /// A core does not stand where a possible scenario is left out.
