@@ -2,7 +2,7 @@
 use Rattle.std.specs.Prelude.{ℕ, List, [], ◌∷◌}
 use Rattle.kn_word.specs.declared.Op.TheVariants as ops
 use Rattle.kn_model.specs.Terms.{Word, Input, Apply}
-use Rattle.kn_model.specs.Nets.{Network, Plan}
+use Rattle.kn_model.specs.Nets.{Network, Plan, Link}
 use Rattle.kn_model.specs.Conditions.{Query, that, IsSmall, IsLive, IsFar}
 use Rattle.kn_model.specs.Limits.{States, Dstates, IsOver, IsOverCopied}
 use Rattle.kn_model.specs.Worked.{is, is_not, plain, link, ifsend, idle}
@@ -45,25 +45,25 @@ abbrev pub NeverIsNotLive : Type 0
 NeverIsNotLive = IsLive 256 never → ⊥
 
 -- a network of one tick with these limits of states and dstates
-abbrev pub bounded : (states dstates : ℕ) → List Plan → Network
-bounded states dstates nodes = record {
+abbrev pub bounded : (states dstates : ℕ) → List Plan → List Link → Network
+bounded states dstates nodes links = record {
   programs = half ∷ ifsend ∷ idle ∷ [];
   nodes = nodes;
-  links = link 0 1 1 ∷ [];
+  links = links;
   limits = record { ticks = 1; fuel = 512; conflicts = 65536; states = states; dstates = dstates };
 }
 
 -- one node that branches once
 abbrev pub one_half : ℕ → Network
-one_half states = bounded states 1 (plain 0 ∷ [])
+one_half states = bounded states 1 (plain 0 ∷ []) []
 
 -- two such nodes
 abbrev pub two_halves : ℕ → Network
-two_halves dstates = bounded 4 dstates (plain 0 ∷ plain 0 ∷ [])
+two_halves dstates = bounded 4 dstates (plain 0 ∷ plain 0 ∷ []) []
 
 -- a node that sends on one side of a branch, and the receiver
 abbrev pub one_sends : ℕ → Network
-one_sends dstates = bounded 4 dstates (plain 1 ∷ plain 2 ∷ [])
+one_sends dstates = bounded 4 dstates (plain 1 ∷ plain 2 ∷ []) (link 0 1 1 ∷ [])
 
 -- two places of one node
 abbrev pub PlacesOver : Type 0
