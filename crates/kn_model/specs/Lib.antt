@@ -26,3 +26,6 @@ pub mod WorkedChain
 pub mod WorkedOneTick
 pub mod WorkedPackets
 pub mod WorkedEdges
+pub mod WorkedLimits
+pub mod WorkedCores
+pub mod WorkedReports
