@@ -6,6 +6,11 @@ pub mod BuiltWays
 pub mod Fitting
 pub mod Quiet
 pub mod Branching
+pub mod KeptSeen
+pub mod KeptLive
+pub mod KeptWhole
+pub mod Kept
+pub mod KeptStates
 pub mod Numbered
 pub mod Given
 pub mod Failing
