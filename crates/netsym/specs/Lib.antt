@@ -5,6 +5,7 @@ pub mod Views
 pub mod Stepped
 pub mod Branch
 pub mod Keeping
+pub mod Holding
 pub mod Valuations
 pub mod ReportViews
 pub mod Plain
