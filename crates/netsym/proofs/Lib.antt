@@ -11,6 +11,7 @@ pub mod KeptLive
 pub mod KeptWhole
 pub mod Kept
 pub mod KeptStates
+pub mod Held
 pub mod Numbered
 pub mod Given
 pub mod Failing
