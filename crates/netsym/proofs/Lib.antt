@@ -11,6 +11,8 @@ pub mod KeptLive
 pub mod KeptWhole
 pub mod Kept
 pub mod KeptStates
+pub mod TidiedTests
+pub mod Tidied
 pub mod Held
 pub mod Numbered
 pub mod Given
