@@ -11,6 +11,10 @@ pub mod KeptLive
 pub mod KeptWhole
 pub mod Kept
 pub mod KeptStates
+pub mod Told
+pub mod AlikeHeld
+pub mod Alike
+pub mod Walking
 pub mod TidiedTests
 pub mod Tidied
 pub mod Held

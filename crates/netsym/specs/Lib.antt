@@ -6,6 +6,7 @@ pub mod Stepped
 pub mod Branch
 pub mod Keeping
 pub mod Holding
+pub mod Looks
 pub mod Valuations
 pub mod ReportViews
 pub mod Plain
