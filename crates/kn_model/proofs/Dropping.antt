@@ -131,7 +131,7 @@ filter_append {A} test (x ∷ xs) ys = go (test x) (filter_append test xs ys)
     go true h = ap (λ (zs : List A). x ∷ zs) h
     go false h = h
 
-none_passes : {A : Type 0} (test : A → Bool) (xs : List A) → AllByRecursion (λ (x : A). test x ≡ false) xs → filter test xs ≡ []
+pub none_passes : {A : Type 0} (test : A → Bool) (xs : List A) → AllByRecursion (λ (x : A). test x ≡ false) xs → filter test xs ≡ []
 none_passes test [] h = refl
 none_passes {A} test (x ∷ xs) h = ap (λ (b : Bool). cond b (x ∷ filter test xs) (filter test xs)) h.0 ∙ none_passes test xs h.1
 

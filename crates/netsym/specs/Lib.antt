@@ -4,6 +4,9 @@ pub mod TermCode
 pub mod Views
 pub mod Stepped
 pub mod Branch
+pub mod Keeping
+pub mod Holding
+pub mod Looks
 pub mod Valuations
 pub mod ReportViews
 pub mod Plain
