@@ -17,6 +17,7 @@ pub mod FormNet
 pub mod Words
 pub mod Ends
 pub mod Exactly
+pub mod FormNumbers
 pub mod FormTexts
 pub mod FormLeft
 pub mod FormPrograms
