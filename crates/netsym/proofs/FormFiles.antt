@@ -14,7 +14,9 @@ use Rattle.netsym.specs.FormReading.{text_of}
 use Rattle.netsym.specs.FormViews.{Refuses, Finds}
 use Rattle.netsym.specs.declared.form.FormFault.{FormFault}
 use Rattle.netsym.specs.declared.form.FormFault.TheVariants as faults
-use Rattle.netsym.proofs.FormTexts.{NoQuote, HoldsNoQuote, IsShort, IsReadable, text_read, text_is}
+use Rattle.netsym.proofs.FormLines.{NoQuote}
+use Rattle.netsym.proofs.FormGroups.{HoldsNoQuote, IsShort}
+use Rattle.netsym.proofs.FormTexts.{IsReadable, text_read, text_is}
 use Rattle.netsym.proofs.FormNetworks.{each_first, described_once}
 
 -- what is found, and what holds of a refusal

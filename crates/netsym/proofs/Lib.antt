@@ -18,6 +18,8 @@ pub mod Words
 pub mod Ends
 pub mod Exactly
 pub mod FormNumbers
+pub mod FormLines
+pub mod FormGroups
 pub mod FormTexts
 pub mod FormLeft
 pub mod FormPrograms

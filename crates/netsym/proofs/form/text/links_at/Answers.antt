@@ -1,6 +1,6 @@
 use Rattle.std.proofs.Common.{◌-◌, length, sym, ◌∙◌, arith}
 use Rattle.netsym.specs.FormReading.{link_front}
-use Rattle.netsym.proofs.FormTexts.{groups_next, groups_none, groups_end}
+use Rattle.netsym.proofs.FormGroups.{groups_next, groups_none, groups_end}
 use Rattle.netsym.proofs.form.text.links_at.Goals.{else-loop-rest-test, then-loop-rest-test+in_default}
 use Rattle.netsym.proofs.form.text.links_at.Goals as goal
 

@@ -1,7 +1,7 @@
 use Rattle.std.proofs.Common.{map, ◌-◌, length, sym, ◌∙◌, arith}
 use Rattle.netsym.specs.FormReading.{node_front}
 use Rattle.netsym.specs.FormViews.{text_bytes}
-use Rattle.netsym.proofs.FormTexts.{groups_step, groups_none, groups_end}
+use Rattle.netsym.proofs.FormGroups.{groups_step, groups_none, groups_end}
 use Rattle.netsym.proofs.form.text.nodes_at.Goals.{else-loop-rest-test, then-loop-rest-test+in_default}
 use Rattle.netsym.proofs.form.text.nodes_at.Goals as goal
 
