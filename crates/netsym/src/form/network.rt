@@ -190,6 +190,5 @@ pub fn net_of(alloc: Global, text: &FileLines) -> Result<Net, FormFault>
     }
     let programs = programs_of(alloc, &text.programs)?;
     let places = places_of(alloc, &text.programs, &text.nodes)?;
-    let net = net_with(alloc, text, programs, &places).map_err(FormFault::Memory)?;
-    Ok(net)
+    net_with(alloc, text, programs, &places).map_err(FormFault::Memory)
 }

@@ -73,6 +73,5 @@ pub fn program_of(alloc: Global, lines: &ProgramLines) -> Result<Program, FormFa
         return Err(FormFault::NotForm);
     }
     let bytes = bytes_of(alloc, lines.code)?;
-    let program = code_of(alloc, &bytes)?;
-    Ok(program)
+    code_of(alloc, &bytes)
 }
