@@ -1,5 +1,5 @@
 -- A file of the form is read, and it is the file of one network.
-use Rattle.std.proofs.Common.{◌≡◌, ℕ, zero, suc, true, false, eqb, List, [], ◌∷◌, Some, None, Ok, sym, ap, subst, ◌∙◌, arith}
+use Rattle.std.proofs.Common.{◌≡◌, ℕ, zero, suc, true, false, eqb, List, [], ◌∷◌, length, ◌≤◌, Some, None, Ok, sym, ap, subst, ◌∙◌, arith}
 use Rattle.std.specs.Prelude.{IfOk, IsErrOf, Result, Err}
 use Rattle.std.specs.List.{AllByRecursion}
 use Rattle.std.proofs.lemmas.Bool.{ne_eqb}
@@ -7,13 +7,16 @@ use Rattle.std.proofs.lemmas.List.Elements.{recursion_from_All}
 use Rattle.hex.specs.Hex.{is_hex_digit}
 use Rattle.hex.proofs.HexLemmas.{decode_of-ok}
 use Rattle.kn_code.specs.Code.{Code}
-use Rattle.kn_model.specs.Nets.{Network}
+use Rattle.kn_plan.specs.Nets.{Network, Link}
+use Rattle.kn_plan.specs.Valid.{IsLink}
 use Rattle.netsym.specs.Form.{ProgramText, FileText, IsNameByte, IsProgramOf, IsPlaceOf, names_of, HasCounts, Describes, IsFile, OneNetwork}
 use Rattle.netsym.specs.FormReading.{text_of}
 use Rattle.netsym.specs.FormViews.{Refuses, Finds}
 use Rattle.netsym.specs.declared.form.FormFault.{FormFault}
 use Rattle.netsym.specs.declared.form.FormFault.TheVariants as faults
-use Rattle.netsym.proofs.FormTexts.{NoQuote, HoldsNoQuote, HaveNoQuote, text_read, text_is}
+use Rattle.netsym.proofs.FormLines.{NoQuote}
+use Rattle.netsym.proofs.FormGroups.{HoldsNoQuote, IsShort}
+use Rattle.netsym.proofs.FormTexts.{IsReadable, text_read, text_is}
 use Rattle.netsym.proofs.FormNetworks.{each_first, described_once}
 
 -- what is found, and what holds of a refusal
@@ -51,14 +54,20 @@ named_holds_none [] name k h e = absurd cc
 named_holds_none (t ∷ texts) name zero h e = subst NoQuote (some_is t.name name e) h.0.0
 named_holds_none (t ∷ texts) name (suc k) h e = named_holds_none texts name k h.1 e
 
-described_holds_none : (text : FileText) (net : Network) → Describes text net → HaveNoQuote text
-described_holds_none text net h =
-    let programs = each_first IsProgramOf HoldsNoQuote program_holds_none text.programs h.programs h.are_programs in
-    (programs, each_first (IsPlaceOf (names_of text.programs)) NoQuote (λ name k e. named_holds_none text.programs name k programs e) text.nodes h.places h.are_places)
+link_short : (nodes : ℕ) → nodes ≤ 64 → (l : Link) → IsLink nodes l → IsShort l
+link_short nodes few l h = (omega (arith, h.from, few), omega (arith, h.to, few), h.most)
+
+described_readable : (text : FileText) (net : Network) → HasCounts text → Describes text net → IsReadable text
+described_readable text net counts h =
+    let programs = each_first IsProgramOf HoldsNoQuote program_holds_none text.programs h.programs h.are_programs in (
+      programs,
+      each_first (IsPlaceOf (names_of text.programs)) NoQuote (λ name k e. named_holds_none text.programs name k programs e) text.nodes h.places h.are_places,
+      all_weaker (IsLink (length text.nodes)) IsShort (link_short (length text.nodes) counts.most_nodes) text.links h.joins,
+    )
 
 -- a file is read as its texts
 file_read : (bytes : List ℕ) (net : Network) → (file : IsFile bytes net) → text_of bytes ≡ Some file.text
-file_read bytes net file = ap text_of file.spelled ∙ text_read file.text file.counts (described_holds_none file.text net file.describes)
+file_read bytes net file = ap text_of file.spelled ∙ text_read file.text file.counts (described_readable file.text net file.counts file.describes)
 
 -- what the texts describe is the network of the file
 pub file_of : (bytes : List ℕ) (text : FileText) (net : Network) → text_of bytes ≡ Some text → Describes text net → IsFile bytes net

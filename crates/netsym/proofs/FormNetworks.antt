@@ -1,20 +1,19 @@
 -- The network that the texts of a file describe, and that they describe one network.
-use Rattle.std.proofs.Common.{◌≡◌, ◌≢◌, ◌≤◌, ◌<◌, ◌+◌, ℕ, zero, suc, Bool, true, false, eqb, List, [], ◌∷◌, ◌++◌, length, map, take, get_or, Option, Some, None, refl, sym, ap, subst, ◌∙◌, arith}
+use Rattle.std.proofs.Common.{◌≡◌, ◌≢◌, ◌≤◌, ◌<◌, ◌+◌, ℕ, zero, suc, Bool, true, false, cond, eqb, inl, inr, List, [], ◌∷◌, ◌++◌, length, map, take, get_or, Option, Some, None, refl, sym, ap, subst, ◌∙◌, arith}
 use denote.Ref.{Bor}
-use Rattle.std.specs.Prelude.{◌↔◌, IsTrue, MatchOption, All, is_some, option_map, slice_get, sum_by}
+use Rattle.std.specs.Prelude.{◌↔◌, ◌⊎◌, IsTrue, MatchOption, filter, nat_eq, is_some, option_map, slice_get}
 use Rattle.std.specs.List.{AllByRecursion}
 use Rattle.std.specs.Cmp.Lexicographic.{pointwise}
-use Rattle.std.proofs.lemmas.Bool.{eqb-true}
+use Rattle.std.proofs.lemmas.Bool.{eqb-true, ne_eqb, cases_lt}
 use Rattle.std.proofs.lemmas.Bool.Decides.{Decides-eqb}
 use Rattle.std.proofs.lemmas.Slice.Eq.{slice_eq-Decides}
 use Rattle.std.proofs.lemmas.Option.{slice_get-map, slice_get-get_or, slice_get_within}
-use Rattle.std.proofs.lemmas.List.{length-map, take_more, map-append, get_or_read}
-use Rattle.std.proofs.lemmas.List.Sums.{sum_by_more_le}
-use Rattle.std.proofs.lemmas.List.Elements.{All-from_recursion}
-use Rattle.kn_code.specs.Code.{Code, no_code}
-use Rattle.kn_model.specs.Nets.{Network}
-use Rattle.netsym.specs.Plans.{network_with}
-use Rattle.netsym.specs.Form.{ProgramText, FileText, IsProgramOf, EachOf, names_of, AreDifferent, IsPlaceOf, decisions_of, decisions_at, Describes}
+use Rattle.std.proofs.lemmas.List.{length-map, take_more, map-append}
+use Rattle.kn_code.specs.Code.{Code}
+use Rattle.kn_plan.specs.Nets.{Network, Plan, Link, Limits, links_of}
+use Rattle.kn_plan.specs.Valid.{IsPlan, IsLink, IsNet}
+use Rattle.netsym.specs.Plans.{plan_with, limits_with, network_with}
+use Rattle.netsym.specs.Form.{ProgramText, FileText, IsProgramOf, EachOf, names_of, AreDifferent, IsPlaceOf, HasCounts, Describes}
 use Rattle.netsym.specs.FormViews.{program_text, text_bytes, file_text, Refuses}
 use Rattle.netsym.specs.declared.form.text.ProgramLines.{ProgramLines}
 use Rattle.netsym.specs.declared.form.text.FileLines.{FileLines}
@@ -43,7 +42,7 @@ each_at R (w ∷ xs) [] i x h e = absurd h
 each_at R (w ∷ xs) (z ∷ ys) zero x h e = let same : w ≡ x = cc in (z, subst (λ v. R v z) same h.0)
 each_at R (w ∷ xs) (z ∷ ys) (suc i) x h e = each_at R xs ys i x h.1 e
 
-pub each_length : {X Y : Type 0} (R : X → Y → Type 0) (xs : List X) (ys : List Y) → EachOf R xs ys → length xs ≡ length ys
+each_length : {X Y : Type 0} (R : X → Y → Type 0) (xs : List X) (ys : List Y) → EachOf R xs ys → length xs ≡ length ys
 each_length R [] [] h = refl
 each_length R [] (y ∷ ys) h = absurd h
 each_length R (x ∷ xs) [] h = absurd h
@@ -160,15 +159,26 @@ place_once (y ∷ names) different name (suc p) zero h k =
     absurd (differ_not names y p (h ∙ ap (λ (l : List ℕ). Some l) (sym (some_is y name k))) different.0)
 place_once (y ∷ names) different name (suc p) (suc q) h k = ap suc (place_once names different.1 name p q h k)
 
--- ---- decisions
+-- ---- links
 
-pub too_many : (programs : List Code) (places : List ℕ) (i : ℕ) (program : Code) (count more : ℕ) → i < length places → get_or places i 0 < length programs → program ≡ get_or programs (get_or places i 0) program
-    → count ≡ sum_by (decisions_at programs) (take i places) → more ≡ decisions_of program → 12 < count + more → sum_by (decisions_at programs) places ≤ 12 → ⊥
-too_many programs places i program count more inside there is so_far e above few =
-    let same : program ≡ get_or programs (get_or places i 0) no_code = get_or_read programs (get_or places i 0) program there is no_code in
-    let all = sum_by_more_le (decisions_at programs) places i 0 inside in
-    let here : more ≡ decisions_at programs (get_or places i 0) = e ∙ ap decisions_of same in
-    omega (arith, all, here, so_far, above, few)
+-- how many links come from a node
+abbrev fan_of : List Link → ℕ → ℕ
+fan_of links n = length (filter (λ (l : Link). nat_eq l.from n) links)
+
+-- no link comes from a node that is not there
+none_from : (nodes n : ℕ) (links : List Link) → nodes ≤ n → AllByRecursion (IsLink nodes) links → fan_of links n ≡ 0
+none_from nodes n [] past h = refl
+none_from nodes n (l ∷ links) past h =
+    let other : eqb l.from n ≡ false = ne_eqb l.from n (λ e. omega (arith, h.0.from, past, e)) in
+    ap (λ (b : Bool). length (cond b (l ∷ filter (λ (m : Link). nat_eq m.from n) links) (filter (λ (m : Link). nat_eq m.from n) links))) other ∙ none_from nodes n links past h.1
+
+-- where few come from each node that is there, few come from each
+pub few_from_all : (nodes : ℕ) (links : List Link) → AllByRecursion (IsLink nodes) links → ((n : ℕ) → n < nodes → fan_of links n ≤ 16) → (n : ℕ) → fan_of links n ≤ 16
+few_from_all nodes links h few n = go (cases_lt n nodes)
+  where
+    go : (n < nodes) ⊎ (nodes ≤ n) → fan_of links n ≤ 16
+    go (inl inside) = few n inside
+    go (inr past) = omega (arith, none_from nodes n links past h)
 
 -- ---- the whole
 
@@ -178,17 +188,11 @@ program_places texts programs nodes places h k =
     each_holds (IsPlaceOf (names_of texts)) (λ (p : ℕ). p < length programs)
     (λ name p e. omega (arith, slice_get_within (names_of texts) p name e, length-map texts (λ (t : ProgramText). t.name), each_length IsProgramOf texts programs h)) nodes places k
 
-pub places_inside : (texts : List ProgramText) (programs others : List Code) (nodes : List (List ℕ)) (places those : List ℕ) → EachOf IsProgramOf texts programs → EachOf (IsPlaceOf (names_of texts)) nodes places
-    → others ≡ programs → those ≡ places → All (λ (p : ℕ). p < length others) those
-places_inside texts programs others nodes places those h k e d =
-    subst (λ (l : List ℕ). All (λ (p : ℕ). p < length others) l) (sym d)
-    (subst (λ (l : List Code). All (λ (p : ℕ). p < length l) places) (sym e) (All-from_recursion (λ (p : ℕ). p < length programs) places (program_places texts programs nodes places h k)))
-
 -- the same of the texts, where a slice holds them
-pub seen_programs : (ls lines : List ProgramLines) (programs : List Code) → ls ≡ lines → EachOf IsProgramOf (map program_text ls) programs → EachOf IsProgramOf (map program_text lines) programs
+seen_programs : (ls lines : List ProgramLines) (programs : List Code) → ls ≡ lines → EachOf IsProgramOf (map program_text ls) programs → EachOf IsProgramOf (map program_text lines) programs
 seen_programs ls lines programs e h = subst (λ (l : List ProgramLines). EachOf IsProgramOf (map program_text l) programs) e h
 
-pub seen_places : (ls lines : List ProgramLines) (ns names : List (Bor (List ℕ))) (places : List ℕ) → ls ≡ lines → ns ≡ names → EachOf (IsPlaceOf (lines_names ls)) (map text_bytes ns) places
+seen_places : (ls lines : List ProgramLines) (ns names : List (Bor (List ℕ))) (places : List ℕ) → ls ≡ lines → ns ≡ names → EachOf (IsPlaceOf (lines_names ls)) (map text_bytes ns) places
     → EachOf (IsPlaceOf (lines_names lines)) (map text_bytes names) places
 seen_places ls lines ns names places e d h =
     subst (λ (l : List ProgramLines). EachOf (IsPlaceOf (lines_names l)) (map text_bytes names) places) e
@@ -204,15 +208,78 @@ pub described_once : (text : FileText) (net other : Network) → Describes text 
 described_once text net other h k =
     let programs : h.programs ≡ k.programs = each_once IsProgramOf program_once text.programs h.programs k.programs h.are_programs k.are_programs in
     let places : h.places ≡ k.places = each_once (IsPlaceOf (names_of text.programs)) (place_once (names_of text.programs) h.different) text.nodes h.places k.places h.are_places k.are_places in
-    h.network ∙ (ap (λ (l : List Code). network_with text.ticks l h.places) programs ∙ (ap (network_with text.ticks k.programs) places ∙ sym k.network))
+    h.network ∙ (ap (λ (l : List Code). network_with text.ticks l h.places text.links) programs ∙ (ap (λ (l : List ℕ). network_with text.ticks k.programs l text.links) places ∙ sym k.network))
 
--- where too many instructions decide, no network is described
-pub none_described : (text : FileText) (programs others : List Code) (places those : List ℕ) (r : Bool) → EachOf IsProgramOf text.programs programs → EachOf (IsPlaceOf (names_of text.programs)) text.nodes places
-    → others ≡ programs → those ≡ places → IsTrue r ↔ (sum_by (decisions_at others) those ≤ 12) → r ≡ false → (net : Network) → Describes text net → ⊥
-none_described text programs others places those r h k e d few wrong net all =
-    let same : all.programs ≡ others = each_once IsProgramOf program_once text.programs all.programs programs all.are_programs h ∙ sym e in
-    let alike : all.places ≡ those = each_once (IsPlaceOf (names_of text.programs)) (place_once (names_of text.programs) all.different) text.nodes all.places places all.are_places k ∙ sym d in
-    let little : sum_by (decisions_at others) those ≤ 12 =
-    subst (λ (l : List ℕ). sum_by (decisions_at others) l ≤ 12) alike (subst (λ (l : List Code). sum_by (decisions_at l) all.places ≤ 12) same all.decisions) in
-    let never : false ≡ true = sym wrong ∙ few.1 little in
+-- where the links do not fit, no network is described
+pub no_links : (text : FileLines) (nodes : ℕ) (links : List Link) (r : Bool) → nodes ≡ length text.nodes.items → links ≡ text.links.items
+    → IsTrue r ↔ (AllByRecursion (IsLink nodes) links × ((n : ℕ) → fan_of links n ≤ 16)) → r ≡ false → (net : Network) → Describes (file_text text) net → ⊥
+no_links text nodes links r e d fits wrong net h =
+    let many : length (map text_bytes text.nodes.items) ≡ nodes = length-map text.nodes.items text_bytes ∙ sym e in
+    let joins : AllByRecursion (IsLink nodes) links =
+    subst (λ (l : List Link). AllByRecursion (IsLink nodes) l) (sym d) (subst (λ (k : ℕ). AllByRecursion (IsLink k) text.links.items) many h.joins) in
+    let here : (n : ℕ) → fan_of text.links.items n ≤ 16 = subst (λ (m : Network). (n : ℕ) → length (links_of m n) ≤ 16) h.network h.fan in
+    let fan : (n : ℕ) → fan_of links n ≤ 16 = subst (λ (l : List Link). (n : ℕ) → fan_of l n ≤ 16) (sym d) here in
+    let never : false ≡ true = sym wrong ∙ fits.1 (joins, fan) in
     absurd cc
+
+-- what the parts that were found describe, where slices hold the texts
+pub parts_describe : (text : FileLines) (nodes : ℕ) (ds ls ks : List ProgramLines) (ns : List (Bor (List ℕ))) (links : List Link) (programs : List Code) (places : List ℕ) (b r : Bool)
+    → ds ≡ text.programs.items → ls ≡ text.programs.items → ks ≡ text.programs.items → ns ≡ text.nodes.items → nodes ≡ length text.nodes.items → links ≡ text.links.items
+    → IsTrue b ↔ AreDifferent (lines_names ds) → b ≡ true → EachOf IsProgramOf (map program_text ls) programs → EachOf (IsPlaceOf (lines_names ks)) (map text_bytes ns) places
+    → IsTrue r ↔ (AllByRecursion (IsLink nodes) links × ((n : ℕ) → fan_of links n ≤ 16)) → r ≡ true → Describes (file_text text) (network_with text.ticks programs places text.links.items)
+parts_describe text nodes ds ls ks ns links programs places b r of_ds of_ls of_ks of_ns many of_links differ d are_programs are_places fits f =
+    let long : nodes ≡ length (map text_bytes text.nodes.items) = many ∙ sym (length-map text.nodes.items text_bytes) in
+    let fit = fits.0 f in
+    record {
+      programs = programs;
+      are_programs = seen_programs ls text.programs.items programs of_ls are_programs;
+      different = subst (λ (l : List ProgramLines). AreDifferent (lines_names l)) of_ds (differ.0 d);
+      places = places;
+      are_places = seen_places ks text.programs.items ns text.nodes.items places of_ks of_ns are_places;
+      joins = subst (λ (n : ℕ). AllByRecursion (IsLink n) text.links.items) long (subst (λ (l : List Link). AllByRecursion (IsLink nodes) l) of_links fit.0);
+      fan = subst (λ (l : List Link). (n : ℕ) → fan_of l n ≤ 16) of_links fit.1;
+      network = refl;
+    }
+
+are_plans : (programs : ℕ) (places : List ℕ) → AllByRecursion (λ (p : ℕ). p < programs) places → AllByRecursion (IsPlan programs) (map plan_with places)
+are_plans programs [] h = tt
+are_plans programs (p ∷ places) h =
+    (record { names = h.0; loss = omega arith; duplicate = omega arith; reboots = omega arith; ticks = tt; rising = tt }, are_plans programs places h.1)
+
+-- the network that texts describe is in range
+pub described_in_range : (text : FileText) (net : Network) → HasCounts text → Describes text net → IsNet net
+described_in_range text net counts h =
+    let of_programs : length text.programs ≡ length h.programs = each_length IsProgramOf text.programs h.programs h.are_programs in
+    let of_nodes : length text.nodes ≡ length h.places = each_length (IsPlaceOf (names_of text.programs)) text.nodes h.places h.are_places in
+    let of_plans : length (map plan_with h.places) ≡ length text.nodes = length-map h.places plan_with ∙ sym of_nodes in
+    let whole : IsNet (network_with text.ticks h.programs h.places text.links) = record {
+      some_programs = omega (arith, of_programs, counts.some_programs);
+      programs = omega (arith, of_programs, counts.most_programs);
+      some_nodes = omega (arith, of_plans, counts.some_nodes);
+      nodes = omega (arith, of_plans, counts.most_nodes);
+      plans = are_plans (length h.programs) h.places (program_places text.programs h.programs text.nodes h.places h.are_programs h.are_places);
+      links = counts.most_links;
+      joins = subst (λ (k : ℕ). AllByRecursion (IsLink k) text.links) (sym of_plans) h.joins;
+      fan = subst (λ (m : Network). (n : ℕ) → length (links_of m n) ≤ 16) h.network h.fan;
+      limits = record {
+        ticks = counts.ticks;
+        some_fuel = omega arith;
+        fuel = omega arith;
+        some_conflicts = omega arith;
+        conflicts = omega arith;
+        each_node = omega (arith, of_plans, counts.most_nodes);
+        states = omega arith;
+        some_dstates = omega arith;
+        dstates = omega arith;
+      };
+    } in
+    subst IsNet (sym h.network) whole
+
+abbrev pub net_of_parts : List Code → List Plan → List Link → Limits → Network
+net_of_parts programs nodes links limits = record { programs = programs; nodes = nodes; links = links; limits = limits }
+
+-- the parts of a network make it
+pub parts_make : (ticks : ℕ) (programs : List Code) (places : List ℕ) (links : List Link) (plans : List Plan) (copies : List Link) → plans ≡ map plan_with places → copies ≡ links
+    → network_with ticks programs places links ≡ net_of_parts programs plans copies (limits_with ticks)
+parts_make ticks programs places links plans copies e d =
+    ap (λ (l : List Plan). net_of_parts programs l links (limits_with ticks)) (sym e) ∙ ap (λ (l : List Link). net_of_parts programs plans l (limits_with ticks)) (sym d)

@@ -29,6 +29,9 @@ pub mod FormNet
 pub mod Words
 pub mod Ends
 pub mod Exactly
+pub mod FormNumbers
+pub mod FormLines
+pub mod FormGroups
 pub mod FormTexts
 pub mod FormLeft
 pub mod FormPrograms

@@ -17,7 +17,7 @@ program_text p = record { name = p.name.now; code = p.code.now }
 
 -- the texts of a file
 abbrev pub file_text : FileLines → FileText
-file_text f = record { ticks = f.ticks; programs = map program_text f.programs.items; nodes = map text_bytes f.nodes.items }
+file_text f = record { ticks = f.ticks; programs = map program_text f.programs.items; nodes = map text_bytes f.nodes.items; links = f.links.items }
 
 -- what holds where the fault says that the file is not of the form; nothing is said where memory ran out
 abbrev pub Refuses : FormFault → Type 0 → Type 0

@@ -1,10 +1,10 @@
-//! Reading a network file that names programs and nodes alone.
+//! Reading a network file.
 
 ghost use Rattle.std.specs.Prelude.{IfOk, IsErrOf};
-ghost use Rattle.kn_model.specs.Nets.{Network};
+ghost use Rattle.kn_plan.specs.Nets.{Network};
 ghost use Rattle.netsym.specs.Form.{IsFile, OneNetwork};
 
-use crate::net::Net;
+use kn_plan::Net;
 use network::net_of;
 use std::alloc::{AllocError, Global};
 use text::read_text;
@@ -27,13 +27,15 @@ pub enum FormFault {
 
 /// The network that a file describes. The lines of a file, each of which one line feed ends, are these, and no others:
 /// - `version = 1`
-/// - `ticks = 0` or `ticks = 1`
+/// - `ticks = n`, where n is 0 to 4,096
 /// - for each of 1 to 64 programs `[[program]]`, `name = ".."` and `code = ".."`
 /// - for each of 1 to 64 nodes `[[node]]` and `program = ".."`
+/// - for each of 0 to 1,024 links `[[link]]`, `from = n`, `to = n` and `delay = n`
 ///
 /// A name is 1 to 32 letters, digits, `_` or `-`, and no two programs have one name. The code is bytecode in hexadecimal
-/// digits of either case: at most 512 instructions, boot as the only handler, and each branch to a higher index. A node's
-/// program is the name of one of the programs. At most 12 instructions decide, counted node by node.
+/// digits of either case. A node's program is the name of one of the programs. A link goes from one node to another,
+/// both by number from 0, its delay is 1 to 65,535, and at most 16 links go from one node. A number is digits that do
+/// not begin with 0, or `0` alone. The limits but the ticks have their defaults.
 ///
 /// - `NotForm`: the bytes are no such file.
 /// - `Memory`: want of memory.

@@ -4,8 +4,8 @@
 mod answer;
 mod explore;
 mod form;
-mod net;
 mod output;
+mod plan;
 mod report;
 mod status;
 mod top;

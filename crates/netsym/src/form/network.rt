@@ -1,20 +1,26 @@
 //! The network that the texts of a file describe.
 
-ghost use Rattle.std.specs.Prelude.{◌≡◌, ◌≢◌, ◌≤◌, ◌<◌, ◌↔◌, ℕ, List, IsTrue, All, MatchOption, Some, length, map, slice_get, sum_by};
+ghost use Rattle.std.specs.Prelude.{◌≡◌, ◌≢◌, ◌≤◌, ◌<◌, ◌↔◌, ℕ, List, IsTrue, IfOk, MatchOption, Some, length, map, filter, nat_eq, slice_get};
+ghost use Rattle.std.specs.List.{AllByRecursion};
 ghost use Rattle.kn_code.specs.Code.{Code};
-ghost use Rattle.kn_model.specs.Nets.{Network};
-ghost use Rattle.netsym.specs.Form.{IsProgramOf, EachOf, names_of, AreDifferent, IsPlaceOf, decides, decisions_of, decisions_at, HasCounts, Describes};
+ghost use Rattle.kn_plan.specs.Nets.{Network};
+ghost use Rattle.kn_plan.specs.Valid.{IsLink};
+ghost use Rattle.netsym.specs.Plans.{plan_with, network_with};
+ghost use Rattle.netsym.specs.Form.{IsProgramOf, EachOf, names_of, AreDifferent, IsPlaceOf, HasCounts, Describes};
 ghost use Rattle.netsym.specs.FormViews.{program_text, text_bytes, file_text, Finds};
 
 use crate::form::FormFault;
 use crate::form::program::program_of;
 use crate::form::text::{FileLines, ProgramLines};
-use crate::net::Net;
-use kn_code::{Instr, Program};
+use kn_code::Program;
+use kn_plan::{Limits, Link, Net, NodePlan};
 use std::alloc::{AllocError, Global};
 
-/// The most deciding instructions, counted node by node.
-const DECISIONS: usize = 12;
+/// The most ticks that a packet takes.
+const DELAY: u32 = 65_535;
+
+/// The most links from one node.
+const FAN: usize = 16;
 
 /// The place of a name among the programs, the first if it is there twice.
 fn place_of(programs: &[ProgramLines], name: &[u8]) -> Option<usize>
@@ -75,38 +81,100 @@ fn places_of(
     Ok(places)
 }
 
-/// Whether an instruction decides.
-fn is_decision(instr: &Instr) -> bool
-    ensures { result ≡ decides instr.now }
+/// The plan of each node, by the place of its program.
+fn plans_of(alloc: Global, places: &[usize]) -> Result<Vec<NodePlan>, AllocError>
+    ensures { IfOk result (λ v. v.items ≡ map plan_with places.now) }
 {
-    matches!(instr, Instr::Brz { .. } | Instr::Assert { .. })
-}
-
-/// How many instructions of a program decide, at most 4,096.
-fn decisions_in(program: &Program) -> usize
-    ensures count { result ≡ decisions_of program.now }
-    ensures most { result ≤ 4096 }
-{
-    program
-        .instrs
-        .iter()
-        .filter(|instr| is_decision(*instr))
-        .count()
-}
-
-/// Whether few enough instructions decide.
-fn decides_little(programs: &[Program], places: &[usize]) -> bool
-    requires { All (λ place. place < length programs.now) places.now }
-    ensures { IsTrue result ↔ (sum_by (decisions_at programs.now) places.now ≤ 12) }
-{
-    let mut count = 0;
+    let mut plans = Vec::new(alloc);
     for place in places {
-        count += decisions_in(&programs[*place]);
-        if count > DECISIONS {
+        plans.push(NodePlan {
+            program: *place,
+            loss: 0,
+            duplicate: 0,
+            reboot: Vec::new(alloc),
+        })?;
+    }
+    Ok(plans)
+}
+
+/// Whether a link joins two different nodes of so many, and takes 1 to 65,535 ticks.
+fn is_link(link: Link, nodes: usize) -> bool
+    ensures { IsTrue result ↔ IsLink nodes link }
+{
+    (link.from as usize) < nodes
+        && (link.to as usize) < nodes
+        && link.from != link.to
+        && link.delay >= 1
+        && link.delay <= DELAY
+}
+
+/// Whether each link is one between nodes of so many.
+fn are_links(links: &[Link], nodes: usize) -> bool
+    ensures { IsTrue result ↔ AllByRecursion (IsLink nodes) links.now }
+{
+    for link in links {
+        if !is_link(*link, nodes) {
             return false;
         }
     }
     true
+}
+
+/// How many links come from a node.
+fn links_from(links: &[Link], node: usize) -> usize
+    ensures { result ≡ length (filter (λ l. nat_eq l.from node) links.now) }
+{
+    links
+        .iter()
+        .filter(|link| link.from as usize == node)
+        .count()
+}
+
+/// Whether few enough links come from each of the nodes.
+fn have_few(links: &[Link], nodes: usize) -> bool
+    ensures { IsTrue result ↔ ((n : ℕ) → n < nodes → length (filter (λ l. nat_eq l.from n) links.now) ≤ 16) }
+{
+    for node in 0..nodes {
+        if links_from(links, node) > FAN {
+            return false;
+        }
+    }
+    true
+}
+
+/// Whether each link is one between nodes of so many, and at most 16 come from one node.
+fn links_fit(links: &[Link], nodes: usize) -> bool
+    ensures { IsTrue result ↔ (AllByRecursion (IsLink nodes) links.now × ((n : ℕ) → length (filter (λ l. nat_eq l.from n) links.now) ≤ 16)) }
+{
+    are_links(links, nodes) && have_few(links, nodes)
+}
+
+/// The network of the texts, with these programs and these places of the nodes' programs.
+fn net_with(
+    alloc: Global,
+    text: &FileLines,
+    programs: Vec<Program>,
+    places: &[usize],
+) -> Result<Net, AllocError>
+    requires counts { HasCounts (file_text text.now) }
+    requires describes { Describes (file_text text.now) (network_with text.now.ticks programs.items places.now text.now.links.items) }
+    ensures { IfOk result (λ net. Describes (file_text text.now) net) }
+{
+    let nodes = plans_of(alloc, places)?;
+    let links = Vec::from_slice(alloc, &text.links)?;
+    let limits = Limits {
+        ticks: text.ticks,
+        fuel: 512,
+        conflicts: 65_536,
+        states: 4096,
+        dstates: 4096,
+    };
+    Ok(Net {
+        programs,
+        nodes,
+        links,
+        limits,
+    })
 }
 
 /// The network that the texts describe. `NotForm`: they describe none. `Memory` is want of memory.
@@ -117,14 +185,10 @@ pub fn net_of(alloc: Global, text: &FileLines) -> Result<Net, FormFault>
     if !are_different(&text.programs) {
         return Err(FormFault::NotForm);
     }
-    let programs = programs_of(alloc, &text.programs)?;
-    let nodes = places_of(alloc, &text.programs, &text.nodes)?;
-    if !decides_little(&programs, &nodes) {
+    if !links_fit(&text.links, text.nodes.len()) {
         return Err(FormFault::NotForm);
     }
-    Ok(Net {
-        ticks: text.ticks,
-        programs,
-        nodes,
-    })
+    let programs = programs_of(alloc, &text.programs)?;
+    let places = places_of(alloc, &text.programs, &text.nodes)?;
+    net_with(alloc, text, programs, &places).map_err(FormFault::Memory)
 }

@@ -1,24 +1,21 @@
 //! A program of a network file.
 
-ghost use Rattle.std.specs.Prelude.{◌≡◌, ◌≢◌, ◌≤◌, ◌↔◌, ℕ, List, IsTrue, drop, replicate, None, Ok};
+ghost use Rattle.std.specs.Prelude.{◌≡◌, ◌≢◌, ◌↔◌, ℕ, List, IsTrue, Ok};
 ghost use Rattle.std.specs.List.{AllByRecursion};
 ghost use Rattle.hex.specs.Hex.{decode_of};
 ghost use Rattle.kn_code.specs.Code.{Code, IsValid};
 ghost use Rattle.kn_code.specs.Rows.{spelling};
-ghost use Rattle.netsym.specs.Form.{IsNameByte, IsName, GoesOn, AllGoOn, IsBootProgram, IsProgramOf};
+ghost use Rattle.netsym.specs.Form.{IsNameByte, IsName, IsProgramOf};
 ghost use Rattle.netsym.specs.FormViews.{program_text, Finds};
 
 use crate::form::FormFault;
 use crate::form::text::ProgramLines;
 use hex::FromHexError;
-use kn_code::{CodeFault, Instr, Program, decode};
+use kn_code::{CodeFault, Program, decode};
 use std::alloc::{AllocError, Global};
 
 /// The most bytes of a name.
 const NAME_BYTES: usize = 32;
-
-/// The most instructions of a program of a file.
-const INSTRUCTIONS: usize = 512;
 
 /// Whether a byte is a letter, a digit, `_` or `-`.
 fn is_name_byte(byte: u8) -> bool
@@ -68,45 +65,7 @@ fn code_of(alloc: Global, bytes: &[u8]) -> Result<Program, FormFault>
     }
 }
 
-/// Whether an instruction, at this index, is no branch that goes back.
-fn goes_forward(index: usize, instr: Instr) -> bool
-    ensures { IsTrue result ↔ GoesOn index instr }
-{
-    match instr {
-        Instr::Brz { a: _, to } => index < to as usize,
-        _ => true,
-    }
-}
-
-/// Whether no branch goes back.
-fn all_go_forward(instrs: &[Instr]) -> bool
-    ensures { IsTrue result ↔ AllGoOn 0 instrs.now }
-{
-    for (index, instr) in instrs.iter().enumerate() {
-        if !goes_forward(index, *instr) {
-            return false;
-        }
-    }
-    true
-}
-
-/// Whether no handler but boot is there.
-fn has_boot_alone(handlers: &[Option<u16>; 10]) -> bool
-    ensures { IsTrue result ↔ (drop 1 handlers.now ≡ replicate 9 None) }
-{
-    handlers.split_at(1).1 == [None; 9].as_slice()
-}
-
-/// Whether a program is for a file: it only boots, in at most 512 instructions, without going back.
-fn is_boot_program(program: &Program) -> bool
-    ensures { IsTrue result ↔ IsBootProgram program.now }
-{
-    program.instrs.len() <= INSTRUCTIONS
-        && has_boot_alone(&program.handlers)
-        && all_go_forward(&program.instrs)
-}
-
-/// The program that the texts spell. `NotForm`: they spell none, or one that is not for a file. `Memory` is want of memory.
+/// The program that the texts spell. `NotForm`: they spell none. `Memory` is want of memory.
 pub fn program_of(alloc: Global, lines: &ProgramLines) -> Result<Program, FormFault>
     ensures { Finds result (λ p. IsProgramOf (program_text lines.now) p) ((code : Code) → IsProgramOf (program_text lines.now) code → ⊥) }
 {
@@ -114,9 +73,5 @@ pub fn program_of(alloc: Global, lines: &ProgramLines) -> Result<Program, FormFa
         return Err(FormFault::NotForm);
     }
     let bytes = bytes_of(alloc, lines.code)?;
-    let program = code_of(alloc, &bytes)?;
-    if !is_boot_program(&program) {
-        return Err(FormFault::NotForm);
-    }
-    Ok(program)
+    code_of(alloc, &bytes)
 }

@@ -1,5 +1,5 @@
 use Rattle.std.proofs.Common.{Err}
-use Rattle.kn_model.specs.Nets.{Network}
+use Rattle.kn_plan.specs.Nets.{Network}
 use Rattle.netsym.specs.Form.{IsFile, Describes}
 use Rattle.netsym.specs.FormViews.{file_text}
 use Rattle.std.proofs.lemmas.Result.{err_from_is_err_and}

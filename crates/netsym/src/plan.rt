@@ -1,0 +1,20 @@
+//! What the explorer takes from a network.
+
+ghost use Rattle.std.specs.Prelude.{◌≡◌, ◌<◌, length};
+ghost use Rattle.kn_code.specs.Code.{IsValid};
+ghost use Rattle.kn_model.specs.Nets.{code_of};
+
+use kn_code::Program;
+use kn_plan::Net;
+
+/// The program of a node.
+pub fn program_of(net: &Net, node: u32) -> &Program
+    requires { node < length net.now.nodes }
+    ensures value { result.now ≡ code_of net.now node }
+    ensures valid { IsValid (code_of net.now node) }
+{
+    let plan = &net.nodes[node as usize];
+    let program = &net.programs[plan.program];
+    let _instrs = &program.instrs;
+    program
+}
