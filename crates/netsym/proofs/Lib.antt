@@ -8,7 +8,9 @@ pub mod Quiet
 pub mod Branching
 pub mod Numbered
 pub mod Given
+pub mod Ordered
 pub mod Failing
+pub mod Sorting
 pub mod Listed
 pub mod Placing
 pub mod Printed

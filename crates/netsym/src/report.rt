@@ -7,6 +7,7 @@ use std::alloc::Global;
 use std::marker::Model;
 
 pub mod making;
+pub mod order;
 pub mod text;
 
 /// How scenarios are grouped into dstates.
