@@ -1,5 +1,5 @@
 -- Lists in order: what comparing place after place tells, what a sort ensures, and lists whose items all have other keys.
-use Rattle.std.proofs.Common.{◌≡◌, ◌≢◌, ℕ, zero, suc, ◌+◌, ◌<◌, ◌≤◌, Bool, true, false, cond, not, List, [], ◌∷◌, length, map, take, get_or, set, Some, None, refl, sym, ap, subst, ◌∙◌, arith, add-one, Bor}
+use Rattle.std.proofs.Common.{◌≡◌, ◌≢◌, ℕ, zero, suc, ◌+◌, ◌<◌, ◌≤◌, Bool, true, false, cond, not, List, [], ◌∷◌, length, map, take, get_or, set, refl, sym, ap, subst, ◌∙◌, arith, add-one, Bor}
 use Rattle.std.specs.Prelude.{slice_get, filter, count_by}
 use Rattle.std.specs.List.{AllByRecursion, swap}
 use Rattle.std.specs.List.Sorted.{IsPermutation, IsSortedByKey, IsSortedByClosure, SwapsInRange, apply_swaps}
@@ -168,9 +168,10 @@ module _ {A K : Type 0} (cmp : K → K → Ordering) (o : IsTotalOrder cmp) (key
   rises_where_up [] up once = tt
   rises_where_up (x ∷ xs) up once =
       let this : one_if (key x) x ≡ 1 = ap (λ (c : Ordering). one_of c) (tied_itself o (key x)) in
-      let none : count_by (has_key (key x)) xs ≡ 0 = omega (arith, this, once (key x), sum_by-cons (one_if (key x)) x xs) in
-      (above x xs (λ j inside. up 0 (suc j) x (omega arith) (omega (arith, inside))) none,
-      rises_where_up xs (λ i j d less inside. up (suc i) (suc j) d (omega (arith, less)) (omega (arith, inside))) (λ k. omega (arith, once k, sum_by-cons (one_if k) x xs)))
+      let none : count_by (has_key (key x)) xs ≡ 0 = omega (arith, this, once (key x), sum_by-cons (one_if (key x)) x xs) in (
+        above x xs (λ j inside. up 0 (suc j) x (omega arith) (omega (arith, inside))) none,
+        rises_where_up xs (λ i j d less inside. up (suc i) (suc j) d (omega (arith, less)) (omega (arith, inside))) (λ k. omega (arith, once k, sum_by-cons (one_if k) x xs)),
+      )
 
   -- what is sorted by keys rises where no key comes twice
   pub rises_where_sorted : (xs : List A) → IsSortedByKey key cmp xs → AreOnce xs → Rises cmp (map key xs)

@@ -8,6 +8,8 @@ use std::marker::Model;
 
 pub mod making;
 pub mod order;
+#[cfg(test)]
+mod tests;
 pub mod text;
 
 /// How scenarios are grouped into dstates.

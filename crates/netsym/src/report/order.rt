@@ -36,11 +36,10 @@ fn cmp_names(nodes: u32, a: &Scenario, b: &Scenario) -> Ordering
     Ordering::Equal
 }
 
-/// Puts scenarios of so many nodes in the order of their names.
+/// Sorts scenarios by their names, where each has so many nodes.
 pub fn sort_by_name(nodes: u32, list: &mut Vec<Scenario>)
-    requires { AreLong nodes list.old.items }
     ensures same { IsPermutation list.old.items list.new.items }
-    ensures sorted { IsSortedByKey name_in name_cmp list.new.items }
+    ensures sorted { AreLong nodes list.old.items → IsSortedByKey name_in name_cmp list.new.items }
 {
     list.sort_unstable_by(|a, b| cmp_names(nodes, a, b));
 }

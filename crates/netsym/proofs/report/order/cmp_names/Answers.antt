@@ -1,4 +1,4 @@
-use Rattle.std.proofs.Common.{◌≡◌, ◌∙◌, sym, ap}
+use Rattle.std.proofs.Common.{◌∙◌, sym, ap}
 use Rattle.std.specs.Ordering.{is_ne}
 use Rattle.kn_model.specs.Reports.{trace_cmp}
 use Rattle.netsym.specs.Ordered.{name_in}
