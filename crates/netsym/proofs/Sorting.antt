@@ -107,12 +107,15 @@ module _ {K : Type 0} (cmp : K → K → Ordering) where
   AllDiffer (k ∷ ks) = AllByRecursion (λ (j : K). cmp k j ≢ Equal) ks × AllDiffer ks
 
 module _ {A K : Type 0} (cmp : K → K → Ordering) (o : IsTotalOrder cmp) (key : A → K) where
+  -- the item has this key
   abbrev has_key : K → A → Bool
   has_key k x = is_eq (cmp k (key x))
 
+  -- 1 where keys are the same
   abbrev one_of : Ordering → ℕ
   one_of c = cond (is_eq c) 1 0
 
+  -- 1 for an item that has this key
   abbrev one_if : K → A → ℕ
   one_if k x = one_of (cmp k (key x))
 
