@@ -34,7 +34,7 @@ pub record IsListing (net : Network) (ms : List (Scenario Term)) : Type 0 where
 abbrev pub state : Node Term → State Term
 state y = y.state
 
-abbrev trace : State Term → List Bool
+abbrev pub trace : State Term → List Bool
 trace s = s.trace
 
 abbrev pub lists : List (Scenario Term) → List (List (State Term))
@@ -65,7 +65,7 @@ names_by : (ys : List (Node Term)) → map trace (map state ys) ≡ map (λ (y :
 names_by [] = refl
 names_by (y ∷ ys) = ap (λ (l : List (List Bool)). y.state.trace ∷ l) (names_by ys)
 
-names_of_lists : (ms : List (Scenario Term)) → map (map trace) (lists ms) ≡ map name_of ms
+pub names_of_lists : (ms : List (Scenario Term)) → map (map trace) (lists ms) ≡ map name_of ms
 names_of_lists [] = refl
 names_of_lists (s ∷ ms) = ap (λ (l : List (List Bool)). l ∷ map (map trace) (lists ms)) (names_by s.nodes) ∙ ap (λ (l : List (List (List Bool))). name_of s ∷ l) (names_of_lists ms)
 

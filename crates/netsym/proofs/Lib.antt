@@ -20,7 +20,9 @@ pub mod Tidied
 pub mod Held
 pub mod Numbered
 pub mod Given
+pub mod Ordered
 pub mod Failing
+pub mod Sorting
 pub mod Listed
 pub mod Placing
 pub mod Printed

@@ -1,8 +1,10 @@
 -- What is known of the scenarios that are kept.
-use Rattle.std.proofs.Common.{◌≡◌, ◌⊎◌, inl, inr, ℕ, zero, suc, ◌+◌, ◌<◌, ◌≤◌, Bool, true, false, cond, not, List, [], ◌∷◌, ◌++◌, length, map, take, drop, get_or, Some, refl, sym, ap, subst, ◌∙◌, arith, append_assoc}
+use Rattle.std.proofs.Common.{◌≡◌, ◌⊎◌, inl, inr, ℕ, zero, suc, ◌+◌, ◌<◌, Bool, true, false, cond, not, List, [], ◌∷◌, ◌++◌, length, map, take, drop, get_or, Some, refl, sym, ap, subst, ◌∙◌, arith, append_assoc}
 use Rattle.std.specs.Prelude.{Contains, slice_get, filter, ◌&&◌}
 use Rattle.std.specs.List.{AllByRecursion}
+use Rattle.std.specs.List.Sorted.{IsPermutation, IsSortedByKey}
 use Rattle.std.specs.Cmp.Lexicographic.{slice_cmp}
+use Rattle.std.proofs.lemmas.List.Sorted.{Contains-permutation}
 use Rattle.std.proofs.lemmas.List.{map-append, take_at, drop_at, length-append}
 use Rattle.std.proofs.lemmas.List.Concat.{flat_map-cons}
 use Rattle.std.proofs.lemmas.List.Elements.{All-contains_itself, recursion_from_All}
@@ -13,13 +15,12 @@ use Rattle.kn_model.specs.Scenarios.{Scenario, name_of}
 use Rattle.kn_model.specs.Conditions.{Condition, Query, that, that_with, IsLeast, IsImpossible}
 use Rattle.kn_model.specs.Deciding.{IsPlain, clashes, forced, joined, none_clashes}
 use Rattle.kn_model.specs.Cores.{HasImpossible}
-use Rattle.kn_model.specs.Reports.{ends, trace_cmp, Gives}
+use Rattle.kn_model.specs.Reports.{ends, trace_cmp, Rises, Gives}
 use Rattle.kn_model.specs.Laws.{IsNet}
 use Rattle.kn_model.proofs.Clashing.{both, not_true, clash_is_impossible}
 use Rattle.kn_model.proofs.LeastInputs.{forced_is_least}
 use Rattle.kn_model.proofs.JoinedQuery.{alone, all_of}
 use Rattle.kn_model.proofs.Swapping.{one_and_others}
-use Rattle.kn_model.proofs.Rising.{names_rise, rises_of_filtered}
 use Rattle.kn_model.proofs.Implied.{run_ends_as_member}
 use Rattle.kn_model.proofs.Named.{one_by_name}
 use Rattle.kn_model.proofs.Naming.{have_nodes}
@@ -27,7 +28,10 @@ use Rattle.netsym.specs.Plain.{ArePlain}
 use Rattle.netsym.specs.Shown.{states_of, kept}
 use Rattle.netsym.specs.Listing.{report_of}
 use Rattle.netsym.proofs.Numbered.{some_one, contained_at, contains_at}
-use Rattle.netsym.proofs.Given.{IsListing, lists}
+use Rattle.netsym.specs.Ordered.{name_in, name_cmp}
+use Rattle.netsym.proofs.Sorting.{all_moved, moved_back}
+use Rattle.netsym.proofs.Ordered.{kept_rise}
+use Rattle.netsym.proofs.Given.{IsListing, lists, names_of_lists}
 use Rattle.netsym.proofs.Failing.{Decides, alternative, report_given}
 
 -- ---- plain conditions are decided
@@ -159,19 +163,24 @@ plain_nodes : (ms : List (Scenario Term)) → ArePlain (lists ms) → AllByRecur
 plain_nodes [] h = tt
 plain_nodes (s ∷ ms) h = (all_of_map (λ (x : State Term). IsPlain x.own) (λ (y : Node Term). y.state) s.nodes h.0, plain_nodes ms h.1)
 
-pub listing_of : (net : Network) → IsNet net → net.limits.ticks ≤ 1 → ArePlain (kept net net.limits.ticks) → IsListing net (kept_scenarios net)
-listing_of net good short plain = record {
-  members = all_filtered (Contains (ends net)) is_kept (ends net) (itself (ends net));
-  whole = all_filtered (λ (s : Scenario Term). length s.nodes ≡ length net.nodes) is_kept (ends net) (have_nodes net net.limits.ticks good);
-  plain = plain_nodes (kept_scenarios net) (subst ArePlain (sym (kept_lists net)) plain);
-  sure = all_none_clash (kept_scenarios net) (all_pass is_kept (ends net));
-  rises = rises_of_filtered (slice_cmp trace_cmp) name_of is_kept (ends net) (names_rise net good short);
-  others = λ s c. kept_or_lost (ends net) s c;
+-- a list of members that are the kept ones in another order
+listing_of : (net : Network) (ms : List (Scenario Term)) → IsNet net → IsPermutation (kept_scenarios net) ms → ArePlain (lists ms) → Rises (slice_cmp trace_cmp) (map name_of ms) → IsListing net ms
+listing_of net ms good same plain rises = record {
+  members = all_moved (Contains (ends net)) (kept_scenarios net) ms same (all_filtered (Contains (ends net)) is_kept (ends net) (itself (ends net)));
+  whole = all_moved (λ (s : Scenario Term). length s.nodes ≡ length net.nodes) (kept_scenarios net) ms same (all_filtered (λ (s : Scenario Term). length s.nodes ≡ length net.nodes) is_kept (ends net) (have_nodes net net.limits.ticks good));
+  plain = plain_nodes ms plain;
+  sure = all_none_clash ms (all_moved (λ (s : Scenario Term). is_kept s ≡ true) (kept_scenarios net) ms same (all_pass is_kept (ends net)));
+  rises = rises;
+  others = λ s c. elim (kept_or_lost (ends net) s c) [ inl there ↦ inl (Contains-permutation (kept_scenarios net) ms s same there) | inr lost ↦ inr lost ];
   one = λ s u c d e. one_by_name net net.limits.ticks s u good c d e;
   runs = λ s a c e. run_ends_as_member net a net.limits.ticks s good c e;
 }
 
--- The report of the kept scenarios is given, for a network of at most one tick.
-pub kept_given : (net : Network) → IsNet net → net.limits.ticks ≤ 1 → ArePlain (kept net net.limits.ticks) → Gives (report_of net (kept net net.limits.ticks)) net
-kept_given net good short plain =
-    subst (λ (xs : List (List (State Term))). Gives (report_of net xs) net) (kept_lists net) (report_given net (kept_scenarios net) (listing_of net good short plain) plain_decides)
+-- The report of the kept scenarios, sorted by name, is given.
+pub kept_given : (net : Network) → IsNet net → (xs : List (List (State Term))) → IsPermutation (kept net net.limits.ticks) xs → IsSortedByKey name_in name_cmp xs → ArePlain xs → Gives (report_of net xs) net
+kept_given net good xs same sorted plain =
+    let back = moved_back states_of (kept_scenarios net) xs (subst (λ l. IsPermutation l xs) (sym (kept_lists net)) same) in
+    let ms = back.0 in
+    let are : lists ms ≡ xs = back.2 in
+    let rises = subst (Rises name_cmp) (names_of_lists ms) (subst (λ l. Rises name_cmp (map name_in l)) (sym are) (kept_rise net good xs same sorted)) in
+    subst (λ l. Gives (report_of net l) net) are (report_given net ms (listing_of net ms good back.1 (subst ArePlain (sym are) plain) rises) plain_decides)

@@ -11,6 +11,7 @@ pub mod Valuations
 pub mod ReportViews
 pub mod Plain
 pub mod Listing
+pub mod Ordered
 pub mod Texts
 pub mod Form
 pub mod Statuses

@@ -12,6 +12,7 @@ use crate::form::{FormFault, read_form};
 use crate::net::Net;
 use crate::report::Report;
 use crate::report::making::report_from;
+use crate::report::order::sort_by_name;
 use crate::report::text::{reached_count, report_lines};
 use crate::status::Status;
 use std::alloc::{AllocError, Global};
@@ -22,8 +23,8 @@ pub fn report_of_net(alloc: Global, net: &Net) -> Result<Report, AllocError>
     ensures given { IfOk result (λ r. Gives r net.now) }
     ensures mapping { IfOk result (λ r. r.mapping ≡ Cob) }
 {
-    let _ticks = net.ticks();
-    let scenarios = explore(alloc, net)?;
+    let mut scenarios = explore(alloc, net)?;
+    sort_by_name(net.node_count(), &mut scenarios);
     let report = report_from(alloc, net, &scenarios)?;
     Ok(report)
 }

@@ -7,6 +7,9 @@ use std::alloc::Global;
 use std::marker::Model;
 
 pub mod making;
+pub mod order;
+#[cfg(test)]
+mod tests;
 pub mod text;
 
 /// How scenarios are grouped into dstates.
