@@ -1,14 +1,17 @@
--- A condition with a literal more.
-use Rattle.std.proofs.Common.{◌≡◌, Bool, true, false, [], ◌∷◌, ◌++◌, refl, ap, sym, ◌∙◌}
+-- Conditions with a literal more.
+use Rattle.std.proofs.Common.{◌≡◌, ℕ, ◌+◌, ◌<◌, Bool, true, false, List, [], ◌∷◌, ◌++◌, length, map, take, drop, get_or, refl, ap, sym, ◌∙◌}
 use Rattle.std.specs.Prelude.{◌||◌, not}
-use Rattle.std.proofs.lemmas.List.{append_assoc}
+use Rattle.std.proofs.lemmas.List.{append_assoc, map-append, take_more, take-append-drop}
 use Rattle.kn_model.specs.Values.{Literal}
 use Rattle.kn_model.specs.Terms.{Term, terms}
 use Rattle.kn_model.specs.Rows.{Way}
 use Rattle.kn_model.specs.Paths.{decided}
 use Rattle.kn_model.specs.Conditions.{Condition}
 use Rattle.kn_model.specs.Deciding.{is_false, opposes, some_opposes, clashes}
-use Rattle.netsym.specs.Branch.{opposed_by, fits}
+use Rattle.kn_model.proofs.Clashing.{clash_stays, not_true}
+use Rattle.netsym.specs.declared.explore.value.Decision.{Decision}
+use Rattle.netsym.specs.Views.{literal_of}
+use Rattle.netsym.specs.Deciding.{opposed_by}
 
 or_later : (a b c : Bool) → (a || b) || c ≡ a || (b || c)
 or_later true b c = refl
@@ -55,9 +58,23 @@ clashes-both own literals l =
 pub stays_clashing : (own literals : Condition) (l : Literal Term) → clashes (own ++ literals) ≡ true → clashes (own ++ (literals ++ l ∷ [])) ≡ true
 stays_clashing own literals l h = clashes-both own literals l ∙ ap (λ (b : Bool). b || (is_false l || (opposed_by l own || opposed_by l literals))) h
 
--- whether a way fits after one decision more
-pub fits_then : (w : Way Term) (l : Literal Term) (false_one own_one way_one : Bool) → clashes (w.state.own ++ w.literals) ≡ false → false_one ≡ is_false l → own_one ≡ opposed_by l w.state.own → way_one ≡ opposed_by l w.literals
-    → not (false_one || (own_one || way_one)) ≡ fits (decided terms false l w)
-fits_then w l false_one own_one way_one still f o t =
-    rw (f, o, t)
-    (sym (ap not (clashes-both w.state.own w.literals l ∙ ap (λ (b : Bool). b || (is_false l || (opposed_by l w.state.own || opposed_by l w.literals))) still)))
+-- whether conditions in two parts still pass with a literal more
+pub still_passes : (own literals : Condition) (l : Literal Term) → not (clashes (own ++ literals)) ≡ true → not (clashes (own ++ (literals ++ l ∷ []))) ≡ not (is_false l || (opposed_by l own || opposed_by l literals))
+still_passes own literals l h = ap not (clashes-both own literals l ∙ ap (λ (b : Bool). b || (is_false l || (opposed_by l own || opposed_by l literals))) (not_true (clashes (own ++ literals)) h))
+
+-- the decisions up to a place, and the one there
+pub clashes_more : (ds : List Decision) (i : ℕ) (e d : Decision) (r : Bool) → i < length ds → d ≡ get_or ds i e → clashes (map literal_of (take i ds)) ≡ false
+    → r ≡ (is_false (literal_of d) || opposed_by (literal_of d) (map literal_of (take i ds))) → clashes (map literal_of (take (i + 1) ds)) ≡ r
+clashes_more ds i e d r less is so_far tested =
+    ap (λ (l : List Decision). clashes (map literal_of l)) (take_more ds i e less ∙ ap (λ (x : Decision). take i ds ++ (x ∷ [])) (sym is))
+    ∙ ap clashes (map-append literal_of (take i ds) (d ∷ []))
+    ∙ clashes-last (map literal_of (take i ds)) (literal_of d)
+    ∙ ap (λ (b : Bool). b || (is_false (literal_of d) || opposed_by (literal_of d) (map literal_of (take i ds)))) so_far
+    ∙ sym tested
+
+-- what clashes in front clashes in all
+pub clashes_whole : (ds : List Decision) (i : ℕ) → clashes (map literal_of (take i ds)) ≡ true → clashes (map literal_of ds) ≡ true
+clashes_whole ds i clash =
+    ap (λ (l : List Decision). clashes (map literal_of l)) (sym (take-append-drop i ds))
+    ∙ ap clashes (map-append literal_of (take i ds) (drop i ds))
+    ∙ clash_stays (map literal_of (take i ds)) (map literal_of (drop i ds)) clash

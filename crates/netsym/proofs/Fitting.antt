@@ -1,52 +1,52 @@
--- Ways that fit: one that clashes leads to none.
-use Rattle.std.proofs.Common.{◌≡◌, ℕ, zero, suc, ◌-◌, Bool, true, false, cond, List, [], ◌∷◌, ◌++◌, map, refl, ap, sym, ◌∙◌, arith}
-use Rattle.std.specs.Prelude.{not, filter}
+-- Ways that pass the test of their conditions: one that does not leads to none that does.
+use Rattle.std.proofs.Common.{◌≡◌, ℕ, zero, suc, ◌-◌, ◌≤◌, Bool, true, false, cond, List, [], ◌∷◌, ◌++◌, map, refl, ap, sym, subst, ◌∙◌, arith}
+use Rattle.std.specs.Prelude.{filter}
 use Rattle.std.specs.List.{AllByRecursion}
 use Rattle.std.proofs.lemmas.List.{map-append, append_assoc}
 use Rattle.std.proofs.lemmas.List.Elements.{filter-append}
-use Rattle.kn_code.specs.Code.{IsValid}
-use Rattle.kn_model.specs.Values.{negated}
+use Rattle.kn_model.specs.Values.{Literal, negated}
 use Rattle.kn_model.specs.Terms.{Term, terms}
-use Rattle.kn_model.specs.Nodes.{is_running}
+use Rattle.kn_model.specs.Histories.{Boot}
+use Rattle.kn_model.specs.Nets.{Network, Link}
+use Rattle.kn_model.specs.Nodes.{Fuel, is_running, state_of}
 use Rattle.kn_model.specs.Rows.{Here, Way, Effect}
-use Rattle.kn_model.specs.Paths.{Path, goes_by, decided, after, one_way, effect_at, ways, path_of}
-use Rattle.kn_model.specs.Deciding.{clashes}
+use Rattle.kn_model.specs.Rows as rows
+use Rattle.kn_model.specs.Paths.{Path, goes_by, decided, after, one_way, effect_at, ways, runs_from, path_of}
+use Rattle.kn_model.specs.Conditions.{Condition}
+use Rattle.kn_model.specs.Laws.{IsNet}
+use Rattle.kn_model.proofs.EachWay.{Kept, IsHere, Each, at_keeps, all_ways}
+use Rattle.kn_model.proofs.Sending.{is_here}
+use Rattle.kn_model.proofs.Dropping.{none_passes}
+use Rattle.netsym.specs.declared.explore.here.Spot.{Spot}
 use Rattle.netsym.specs.declared.explore.step.Stepped.{Stepped}
 use Rattle.netsym.specs.declared.explore.step.Stepped.TheVariants.{Goes, Stops, Decides}
 use Rattle.netsym.specs.Views.{literal_of}
 use Rattle.netsym.specs.Stepped.{effect_seen}
-use Rattle.netsym.specs.Branch.{fits, path_fits}
-use Rattle.netsym.proofs.Clashing.{stays_clashing}
-use Rattle.netsym.proofs.BuiltWays.{Keeps, all_ways}
+use Rattle.netsym.specs.Deciding.{lives}
+use Rattle.netsym.specs.Running.{here_of, IsIn}
+use Rattle.netsym.specs.Keeping.{Falls, path_lives}
 
-abbrev pub Clashes : Way Term → Type 0
-Clashes w = clashes (w.state.own ++ w.literals) ≡ true
+-- what the laws need of where an event runs
+pub spot_good : (net : Network) (spot : Spot) → IsIn net spot → IsHere (here_of net spot)
+spot_good net spot at =
+    let h = is_here net spot.node spot.tick Boot (state_of terms 0 0 []) at.sound in
+    record { delays = subst (AllByRecursion (λ (l : Link). 1 ≤ l.delay)) (sym at.links) h.delays; timers = h.timers }
 
-pub clash_kept : Keeps Clashes
-clash_kept = record {
+-- no change of a row touches own condition or literals
+pub own_kept : (here : Here Term) (P : Condition → Type 0) → Kept terms here (λ w. P (w.state.own ++ w.literals))
+own_kept here P = record {
   registers = λ w a x p. p;
+  memory = λ w ms p. p;
+  timer = λ w number d h p. p;
+  cancel = λ w number p. p;
   place = λ w pc p. p;
   outcome = λ w o p. p;
   count = λ w p. p;
-  decide = λ bit l w p. stays_clashing w.state.own w.literals l p;
+  sent = λ w words l h p. p;
+  clear = λ w p. p;
+  loss = λ w p. p;
+  double = λ q w p. p;
 }
-
--- none of a list passes a test that each fails
-pub none_left : {A : Type 0} (test : A → Bool) (xs : List A) → AllByRecursion (λ x. test x ≡ false) xs → filter test xs ≡ []
-none_left test [] h = refl
-none_left test (x ∷ xs) h = ap (λ (b : Bool). cond b (x ∷ filter test xs) (filter test xs)) h.0 ∙ none_left test xs h.1
-
-none_fits : (ws : List (Way Term)) → AllByRecursion Clashes ws → AllByRecursion (λ w. fits w ≡ false) ws
-none_fits [] h = tt
-none_fits (w ∷ ws) h = (ap not h.0, none_fits ws h.1)
-
-not_twice : (b : Bool) → not b ≡ false → b ≡ true
-not_twice true h = refl
-not_twice false h = sym h
-
--- a way that clashes leads to none that fits
-pub dead_ways : (here : Here Term) (fuel : ℕ) (w : Way Term) → IsValid here.code → fits w ≡ false → filter fits (ways terms here fuel w) ≡ []
-dead_ways here fuel w valid h = none_left fits (ways terms here fuel w) (none_fits (ways terms here fuel w) (all_ways here valid Clashes clash_kept fuel w (not_twice (clashes (w.state.own ++ w.literals)) h)))
 
 abbrev pub ways_after : Stepped → (Way Term → List (Way Term)) → List (Way Term)
 ways_after (Goes w) go = go w
@@ -69,25 +69,59 @@ ways_by here (suc k) w s running some e =
     ∙ (after_seen s (ways terms here k)
     ∙ ap (λ (m : ℕ). ways_after s (ways terms here m)) (sym less)))
 
-abbrev pub fitting : List (Way Term) → List (Path Term)
-fitting ws = map (path_of terms) (filter fits ws)
+-- a way that has ended stays
+pub ways_ended : (here : Here Term) (fuel : ℕ) (w : Way Term) → is_running w.state.outcome ≡ false → ways terms here fuel w ≡ w ∷ []
+ways_ended here zero w ended = ap (λ (b : Bool). goes_by b (λ v. rows.failed terms here Fuel v ∷ []) (one_way terms) w) ended
+ways_ended here (suc k) w ended = ap (λ (b : Bool). goes_by b (λ v. after terms (effect_at terms here v) (ways terms here k)) (one_way terms) w) ended
 
--- a way that stops
-pub fitting_stop : (last : Way Term) → fits last ≡ true → fitting (last ∷ []) ≡ path_of terms last ∷ []
-fitting_stop last h = ap (λ (b : Bool). map (path_of terms) (cond b (last ∷ []) [])) h
+module _ (live : Condition → Bool) where
+  -- a step leaves a way passing
+  abbrev pub EachLives : Stepped → Type 0
+  EachLives (Goes w) = lives live w ≡ true
+  EachLives (Stops w) = lives live w ≡ true
+  EachLives (Decides d w v) = (lives live w ≡ true) × (lives live v ≡ true)
 
--- two lists of ways, after paths before
-pub fitting_both : (before mid : List (Path Term)) (a b : List (Way Term)) → mid ≡ before ++ fitting a → mid ++ fitting b ≡ before ++ fitting (a ++ b)
-fitting_both before mid a b first =
-    ap (λ (l : List (Path Term)). l ++ fitting b) first
-    ∙ (append_assoc before (fitting a) (fitting b)
-    ∙ ap (λ (l : List (Path Term)). before ++ l) (sym (ap (map (path_of terms)) (filter-append fits a b) ∙ map-append (path_of terms) (filter fits a) (filter fits b))))
+  abbrev Lives : Way Term → Type 0
+  Lives v = lives live v ≡ true
 
--- of paths those that fit are those of the ways that fit
-pub paths_fit : (ws : List (Way Term)) → filter path_fits (map (path_of terms) ws) ≡ fitting ws
-paths_fit [] = refl
-paths_fit (w ∷ ws) = go (fits w) (paths_fit ws)
-  where
-    go : (b : Bool) → filter path_fits (map (path_of terms) ws) ≡ fitting ws → cond b (path_of terms w ∷ filter path_fits (map (path_of terms) ws)) (filter path_fits (map (path_of terms) ws)) ≡ map (path_of terms) (cond b (w ∷ filter fits ws) (filter fits ws))
-    go true h = ap (λ (l : List (Path Term)). path_of terms w ∷ l) h
-    go false h = h
+  lives_kept : (here : Here Term) → Kept terms here Lives
+  lives_kept here = own_kept here (λ c. live c ≡ true)
+
+  pub step_lives : (here : Here Term) (w : Way Term) (s : Stepped) → IsHere here → effect_seen s ≡ effect_at terms here w → lives live w ≡ true → EachLives s
+  step_lives here w s good e h = go s (subst (Each terms here Lives (lives_kept here) good) (sym e) (at_keeps terms here Lives (lives_kept here) good w h))
+    where
+      go : (s : Stepped) → Each terms here Lives (lives_kept here) good (effect_seen s) → EachLives s
+      go (Goes v) p = p
+      go (Stops v) p = p
+      go (Decides d v u) p = p
+
+  -- a way that does not pass leads to none that does
+  pub dead_ways : Falls live → (here : Here Term) (fuel : ℕ) (w : Way Term) → IsHere here → lives live w ≡ false → filter (lives live) (ways terms here fuel w) ≡ []
+  dead_ways falls here fuel w good h =
+      none_passes (lives live) (ways terms here fuel w)
+      (all_ways terms here (λ v. lives live v ≡ false) (own_kept here (λ c. live c ≡ false)) good
+      (λ b l v p. ap live (sym (append_assoc v.state.own v.literals (l ∷ []))) ∙ falls.falls (v.state.own ++ v.literals) (l ∷ []) p) fuel w h)
+
+  abbrev pub passing : List (Way Term) → List (Path Term)
+  passing ws = map (path_of terms) (filter (lives live) ws)
+
+  -- a way that stops
+  pub passing_stop : (last : Way Term) → lives live last ≡ true → passing (last ∷ []) ≡ path_of terms last ∷ []
+  passing_stop last h = ap (λ (b : Bool). map (path_of terms) (cond b (last ∷ []) [])) h
+
+  -- two lists of ways, after paths before
+  pub passing_both : (before mid : List (Path Term)) (a b : List (Way Term)) → mid ≡ before ++ passing a → mid ++ passing b ≡ before ++ passing (a ++ b)
+  passing_both before mid a b first =
+      ap (λ (l : List (Path Term)). l ++ passing b) first
+      ∙ (append_assoc before (passing a) (passing b)
+      ∙ ap (λ (l : List (Path Term)). before ++ l) (sym (ap (map (path_of terms)) (filter-append (lives live) a b) ∙ map-append (path_of terms) (filter (lives live) a) (filter (lives live) b))))
+
+  -- of paths those that pass are those of the ways that pass
+  pub paths_pass : (ws : List (Way Term)) → filter (path_lives live) (map (path_of terms) ws) ≡ passing ws
+  paths_pass [] = refl
+  paths_pass (w ∷ ws) = go (lives live w) (paths_pass ws)
+    where
+      go : (b : Bool) → filter (path_lives live) (map (path_of terms) ws) ≡ passing ws
+          → cond b (path_of terms w ∷ filter (path_lives live) (map (path_of terms) ws)) (filter (path_lives live) (map (path_of terms) ws)) ≡ map (path_of terms) (cond b (w ∷ filter (lives live) ws) (filter (lives live) ws))
+      go true h = ap (λ (l : List (Path Term)). path_of terms w ∷ l) h
+      go false h = h

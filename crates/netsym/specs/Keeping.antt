@@ -24,6 +24,10 @@ seen_of y = record { state = y.state; fresh = map packet_in y.fresh }
 abbrev pub seen_in : Scenario Term → List Seen
 seen_in s = map seen_of s.nodes
 
+-- the states of nodes
+abbrev pub states_in : List Seen → List (State Term)
+states_in ys = map (λ (y : Seen). y.state) ys
+
 -- node n, or one at its start where there is none
 abbrev pub seen_at : List Seen → ℕ → Seen
 seen_at ys n = slice_index_or ys n (seen_of (opening_node terms no_plan))

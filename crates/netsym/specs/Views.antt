@@ -1,8 +1,9 @@
 -- What the values of the program are in the definitions.
-use Rattle.std.specs.Prelude.{ℕ, Bool, true, false, List, []}
+use Rattle.std.specs.Prelude.{ℕ, Bool, true, false, List, [], Option}
 use Rattle.kn_model.specs.Values.{Literal}
+use Rattle.kn_model.specs.Packets.{Packet}
 use Rattle.kn_model.specs.Terms.{Term, Word, Input, terms}
-use Rattle.kn_model.specs.Nodes.{State, zeros, unset, Outcome as Outcomes, Running as runs, Halted as halts, Failed as fails, FailKind as FailKinds, Assert as asserts, Bounds as bounds, Fuel as fuels}
+use Rattle.kn_model.specs.Nodes.{State, zeros, Outcome as Outcomes, Running as runs, Halted as halts, Failed as fails, FailKind as FailKinds, Assert as asserts, Bounds as bounds, Fuel as fuels}
 use Rattle.netsym.specs.declared.explore.value.Value.{Value}
 use Rattle.netsym.specs.declared.explore.value.Value.TheVariants as values
 use Rattle.netsym.specs.declared.explore.value.Decision.{Decision}
@@ -34,15 +35,15 @@ is_failed runs = false
 is_failed halts = false
 is_failed (fails kind pc tick) = true
 
--- a state in which all that a boot does not change is as at a node's start
-abbrev pub state_with : List Term → ℕ → Bool → Outcomes → List Bool → List (Literal Term) → State Term
-state_with registers inputs booted outcome trace own = record {
+-- a state of a node that loses no packet, is given none twice, never boots again and keeps its memory at 0
+abbrev pub state_with : List Term → List (Option ℕ) → List (Packet Term) → (inputs sent : ℕ) → Bool → Outcomes → List Bool → List (Literal Term) → State Term
+state_with registers timers queue inputs sent booted outcome trace own = record {
   registers = registers;
   memory = zeros terms 64;
-  timers = unset terms;
-  queue = [];
+  timers = timers;
+  queue = queue;
   inputs = inputs;
-  sent = 0;
+  sent = sent;
   losses = 0;
   duplications = 0;
   booted = booted;

@@ -4,27 +4,31 @@ ghost use Rattle.std.specs.Prelude.{◌≡◌, ◌≤◌, ℕ, IfOk, string_byte
 ghost use Rattle.std.specs.List.{flat_map};
 ghost use Rattle.kn_model.specs.Laws.{IsNet};
 ghost use Rattle.kn_model.specs.Reports.{Cob, Gives};
+ghost use Rattle.netsym.specs.Plans.{IsBare};
 ghost use Rattle.netsym.specs.Texts.{reached_in};
 ghost use Rattle.netsym.specs.Runs.{Answers, IsTold, not_form_line};
 
 use crate::explore::explore;
 use crate::form::{FormFault, read_form};
-use crate::net::Net;
 use crate::report::Report;
 use crate::report::making::report_from;
 use crate::report::order::sort_by_name;
 use crate::report::text::{reached_count, report_lines};
 use crate::status::Status;
+use kn_plan::Net;
 use std::alloc::{AllocError, Global};
 
 /// The report of a network: what copying it whole at every branch gives at its last tick.
 pub fn report_of_net(alloc: Global, net: &Net) -> Result<Report, AllocError>
-    requires { IsNet net.now }
+    requires sound { IsNet net.now }
+    requires bare { IsBare net.now }
     ensures given { IfOk result (λ r. Gives r net.now) }
     ensures mapping { IfOk result (λ r. r.mapping ≡ Cob) }
 {
+    net.bounds();
+    let nodes = net.nodes.len() as u32;
     let mut scenarios = explore(alloc, net)?;
-    sort_by_name(net.node_count(), &mut scenarios);
+    sort_by_name(nodes, &mut scenarios);
     let report = report_from(alloc, net, &scenarios)?;
     Ok(report)
 }
@@ -61,7 +65,8 @@ fn refused(alloc: Global) -> Result<Told, AllocError>
 
 /// The answer on a network.
 fn reported(alloc: Global, net: &Net) -> Result<Told, AllocError>
-    requires { IsNet net.now }
+    requires sound { IsNet net.now }
+    requires bare { IsBare net.now }
     ensures { IfOk result (λ t. IsTold net.now t.status (flat_map string_bytes t.lines.items)) }
 {
     let report = report_of_net(alloc, net)?;

@@ -1,5 +1,9 @@
 //! The exploration of a network by copying it whole at every branch.
 
+mod copies;
+mod event;
+mod here;
+mod mail;
 mod branch;
 mod path;
 mod scenario;
@@ -8,10 +12,8 @@ mod step;
 mod value;
 mod way;
 
-pub use branch::explore;
+pub use branch::{all_copies, explore};
+pub use copies::NetworkCopy;
 pub use scenario::Scenario;
 pub use state::{FailKind, NodeState, Outcome};
-pub use value::{Decision, Value, are_opposed};
-
-#[cfg(test)]
-mod tests;
+pub use value::{Decision, Keep, Value, clash};

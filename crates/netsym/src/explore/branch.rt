@@ -1,108 +1,217 @@
 //! Copying the whole network at every branch.
 
-ghost use Rattle.std.specs.Prelude.{◌≡◌, ◌+◌, ◌++◌, ◌<◌, ◌≤◌, map, length, IfOk, OnOk};
-ghost use Rattle.netsym.specs.Shown.{kept};
-ghost use Rattle.netsym.specs.Branch.{kept_copies, kept_branch, copies_along, AreWhole, IsAt, IsQuietState, boots, state_at};
+ghost use Rattle.std.specs.Prelude.{◌≡◌, ◌+◌, ◌++◌, ◌<◌, ◌≤◌, map, flat_map, length, IfOk, OnOk};
+ghost use Rattle.kn_model.specs.Laws.{IsNet};
+ghost use Rattle.kn_model.specs.Scenarios.{cob};
+ghost use Rattle.kn_model.specs.Terms.{terms};
+ghost use Rattle.netsym.specs.Plans.{IsBare};
+ghost use Rattle.netsym.specs.Deciding.{live_of};
+ghost use Rattle.netsym.specs.Writing.{written_of};
+ghost use Rattle.netsym.specs.Plain.{AreLong};
+ghost use Rattle.netsym.specs.Keeping.{IsKept, AreKept, seen_in, kept_copies, kept_settled, copied_along, states_in};
+ghost use Rattle.netsym.specs.Holding.{run_nodes, shut_all, held_at, tidied};
 
-use crate::explore::path::{PathTaken, boot_paths};
+use crate::explore::copies::NetworkCopy;
+use crate::explore::event::{due, left};
+use crate::explore::path::{PathTaken, event_paths};
 use crate::explore::scenario::Scenario;
-use crate::explore::state::NodeState;
-use crate::explore::step::Place;
-use crate::net::Net;
+use crate::explore::value::Keep;
+use kn_plan::Net;
 use std::alloc::{AllocError, Global};
 
-/// Whether a node's boot is due at a tick.
-fn boots(net: &Net, tick: u32, state: &NodeState) -> bool
-    ensures value { result ≡ boots net.now.limits.ticks tick state.now }
-    ensures quiet { IsQuietState state.now }
-{
-    let is_booted = state.is_booted();
-    let is_open = tick < net.ticks() && state.is_running();
-    is_open && tick == 0 && !is_booted
+/// Where the exploration stands: the node whose events run, and the tick.
+#[derive(Clone, Copy, Debug, PartialEq, Eq)]
+pub struct Place {
+    pub node: u32,
+    pub tick: u32,
 }
 
-/// Appends one copy for each path, with the node's state after it.
-fn put_copies(
-    scenario: &Scenario,
+/// Appends one copy for each path of a node's event.
+fn put_along(
+    copy: &NetworkCopy,
     node: u32,
     paths: Vec<PathTaken>,
-    out: &mut Vec<Scenario>,
+    out: &mut Vec<NetworkCopy>,
 ) -> Result<(), AllocError>
-    requires { node < length scenario.now }
-    ensures { OnOk result (out.new.items ≡ out.old.items ++ copies_along scenario.now node paths.items) }
+    requires node { node < length copy.now }
+    requires few { length copy.now ≤ 64 }
+    ensures { OnOk result (out.new.items ≡ out.old.items ++ map (copied_along copy.now node) paths.items) }
 {
     for path in paths {
-        out.push(scenario.with_state(node, path.state)?)?;
+        out.push(copy.along(node, path)?)?;
     }
     Ok(())
 }
 
-/// Appends one copy for each path of a node's due event that fits; the scenario itself where nothing is due.
-fn put_branches(
+/// Appends one copy for each path of a node's due event that passes; the copy itself where nothing is due.
+fn put_copies(
     alloc: Global,
     net: &Net,
+    keep: Keep,
     place: Place,
-    scenario: Scenario,
-    out: &mut Vec<Scenario>,
+    copy: NetworkCopy,
+    out: &mut Vec<NetworkCopy>,
 ) -> Result<(), AllocError>
+    requires sound { IsNet net.now }
     requires node { place.node < length net.now.nodes }
-    requires whole { length scenario ≡ length net.now.nodes }
-    ensures { OnOk result (out.new.items ≡ out.old.items ++ kept_copies net.now place.node place.tick scenario) }
+    requires kept { IsKept (live_of keep) net.now copy }
+    ensures { OnOk result (out.new.items ≡ out.old.items ++ kept_copies (live_of keep) net.now place.node place.tick copy) }
 {
-    let state = scenario.state(place.node);
-    if !boots(net, place.tick, state) {
-        out.push(scenario)?;
+    net.bounds();
+    let state = copy.node(place.node).state();
+    let Some(event) = due(net.limits.ticks, place.tick, state) else {
+        out.push(copy)?;
         return Ok(());
-    }
-    let paths = boot_paths(alloc, net, place, state)?;
-    put_copies(&scenario, place.node, paths, out)
+    };
+    let paths = event_paths(alloc, net, keep, place.node, place.tick, event, state)?;
+    put_along(&copy, place.node, paths, out)
 }
 
-/// Each scenario in which an event of the node is due is replaced by one copy for each path that fits.
-fn branch(
+/// Each copy in which an event of the node is due is replaced by one copy for each path that passes.
+fn turn(
     alloc: Global,
     net: &Net,
+    keep: Keep,
     place: Place,
-    list: Vec<Scenario>,
-) -> Result<Vec<Scenario>, AllocError>
+    list: Vec<NetworkCopy>,
+) -> Result<Vec<NetworkCopy>, AllocError>
+    requires sound { IsNet net.now }
     requires node { place.node < length net.now.nodes }
-    requires whole { AreWhole net.now list.items }
-    ensures { IfOk result (λ v. v.items ≡ kept_branch net.now place.node place.tick list.items) }
+    requires kept { AreKept (live_of keep) net.now list.items }
+    ensures { IfOk result (λ v. v.items ≡ flat_map (kept_copies (live_of keep) net.now place.node place.tick) list.items) }
 {
     let mut out = Vec::new(alloc);
-    for scenario in list {
-        put_branches(alloc, net, place, scenario, &mut out)?;
+    for copy in list {
+        put_copies(alloc, net, keep, place, copy, &mut out)?;
     }
     Ok(out)
 }
 
-/// The events of one tick, node after node.
-fn run_tick(
+/// All events of the node in this tick, in one copy: as many turns as events are left.
+fn settle(
     alloc: Global,
     net: &Net,
-    tick: u32,
-    list: Vec<Scenario>,
-) -> Result<Vec<Scenario>, AllocError>
-    requires { IsAt net.now tick list.items }
-    ensures { IfOk result (λ v. IsAt net.now (tick + 1) v.items) }
+    keep: Keep,
+    place: Place,
+    copy: NetworkCopy,
+) -> Result<Vec<NetworkCopy>, AllocError>
+    requires sound { IsNet net.now }
+    requires node { place.node < length net.now.nodes }
+    requires kept { IsKept (live_of keep) net.now copy }
+    ensures { IfOk result (λ v. v.items ≡ kept_settled (live_of keep) net.now place.tick place.node copy) }
 {
-    let mut list = list;
-    for node in 0..net.node_count() {
-        let _valid = net.program(node);
-        list = branch(alloc, net, Place { node, tick }, list)?;
+    let turns = left(net.limits.ticks, place.tick, copy.node(place.node).state());
+    let mut list = Vec::new(alloc);
+    list.push(copy)?;
+    for _turn in 0..turns {
+        list = turn(alloc, net, keep, place, list)?;
     }
     Ok(list)
 }
 
-/// The scenarios of copying on branch at the network's last tick, each once, but for those in which a node's own condition clashes: no inputs lead there. They come in the order of exploration, by the first node's path first, and bit 0 before bit 1.
-pub fn explore(alloc: Global, net: &Net) -> Result<Vec<Scenario>, AllocError>
-    ensures all { IfOk result (λ v. v.items ≡ kept net.now net.now.limits.ticks) }
-    ensures whole { IfOk result (λ v. AreWhole net.now v.items) }
+/// The same in all copies.
+fn settle_all(
+    alloc: Global,
+    net: &Net,
+    keep: Keep,
+    place: Place,
+    list: Vec<NetworkCopy>,
+) -> Result<Vec<NetworkCopy>, AllocError>
+    requires sound { IsNet net.now }
+    requires node { place.node < length net.now.nodes }
+    requires kept { AreKept (live_of keep) net.now list.items }
+    ensures { IfOk result (λ v. v.items ≡ flat_map (kept_settled (live_of keep) net.now place.tick place.node) list.items) }
 {
-    let mut list = Vec::new(alloc);
-    list.push(Scenario::opening(alloc, net)?)?;
-    for tick in 0..net.ticks() {
-        list = run_tick(alloc, net, tick, list)?;
+    let mut out = Vec::new(alloc);
+    for copy in list {
+        let mut settled = settle(alloc, net, keep, place, copy)?;
+        out.append(&mut settled)?;
+    }
+    Ok(out)
+}
+
+/// The events of a tick, node after node.
+fn run_tick(
+    alloc: Global,
+    net: &Net,
+    keep: Keep,
+    tick: u32,
+    list: Vec<NetworkCopy>,
+) -> Result<Vec<NetworkCopy>, AllocError>
+    requires sound { IsNet net.now }
+    requires kept { AreKept (live_of keep) net.now list.items }
+    ensures { IfOk result (λ v. v.items ≡ run_nodes (live_of keep) (written_of keep) net.now tick (length net.now.nodes) list.items) }
+{
+    net.bounds();
+    let mut list = list;
+    for node in 0..net.nodes.len() as u32 {
+        list = settle_all(alloc, net, keep, Place { node, tick }, list)?;
     }
     Ok(list)
+}
+
+/// The tick is closed in all copies, and those that do not pass go.
+fn shut_tick(
+    alloc: Global,
+    keep: Keep,
+    list: Vec<NetworkCopy>,
+) -> Result<Vec<NetworkCopy>, AllocError>
+    ensures { IfOk result (λ v. v.items ≡ shut_all (live_of keep) (written_of keep) list.items) }
+{
+    let mut out = Vec::new(alloc);
+    for copy in list {
+        let shut = copy.shut(keep)?;
+        if !shut.passes(keep) {
+            continue;
+        }
+        out.push(shut)?;
+    }
+    Ok(out)
+}
+
+/// What an exploration holds before a tick.
+fn copies_at(
+    alloc: Global,
+    net: &Net,
+    keep: Keep,
+    tick: u32,
+) -> Result<Vec<NetworkCopy>, AllocError>
+    requires sound { IsNet net.now }
+    requires bare { IsBare net.now }
+    ensures { IfOk result (λ v. v.items ≡ held_at (live_of keep) (written_of keep) net.now tick) }
+{
+    let mut list = Vec::new(alloc);
+    list.push(NetworkCopy::opening(alloc, net)?)?;
+    for now in 0..tick {
+        let run = run_tick(alloc, net, keep, now, list)?;
+        list = shut_tick(alloc, keep, run)?;
+    }
+    Ok(list)
+}
+
+/// All scenarios of copying on branch before a tick, in the order of exploration: slow and plain, and nothing is left out.
+pub fn all_copies(alloc: Global, net: &Net, tick: u32) -> Result<Vec<NetworkCopy>, AllocError>
+    requires sound { IsNet net.now }
+    requires bare { IsBare net.now }
+    ensures { IfOk result (λ v. v.items ≡ map seen_in (cob terms net.now tick)) }
+{
+    let copies = copies_at(alloc, net, Keep::All, tick)?;
+    Ok(copies)
+}
+
+/// The scenarios of copying on branch at the network's last tick, each once, but for those in which a node's own
+/// condition is impossible: no inputs lead there. Own conditions are written without what says nothing new. The
+/// scenarios come in the order of exploration.
+pub fn explore(alloc: Global, net: &Net) -> Result<Vec<Scenario>, AllocError>
+    requires sound { IsNet net.now }
+    requires bare { IsBare net.now }
+    ensures whole { IfOk result (λ v. AreLong (length net.now.nodes) v.items) }
+    ensures all { IfOk result (λ v. v.items ≡ map states_in (held_at (live_of Keep.Possible) tidied net.now net.now.limits.ticks)) }
+{
+    let copies = copies_at(alloc, net, Keep::Possible, net.limits.ticks)?;
+    let mut scenarios = Vec::new(alloc);
+    for copy in copies {
+        scenarios.push(copy.into_scenario())?;
+    }
+    Ok(scenarios)
 }

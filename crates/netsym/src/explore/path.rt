@@ -1,31 +1,40 @@
 //! All ways through an event.
 
-ghost use Rattle.std.specs.Prelude.{◌≡◌, ◌+◌, ◌-◌, ◌<◌, ◌^◌, ◌++◌, [], ◌∷◌, map, filter, length, IfOk, OnOk};
-ghost use Rattle.kn_model.specs.Histories.{Boot};
+ghost use Rattle.std.specs.Prelude.{◌≡◌, ◌+◌, ◌-◌, ◌<◌, ◌≤◌, ◌^◌, ◌++◌, [], ◌∷◌, map, filter, length, true, Some, IfOk, OnOk};
 ghost use Rattle.kn_model.specs.Terms.{terms};
+ghost use Rattle.kn_model.specs.Due.{due};
+ghost use Rattle.kn_model.specs.Laws.{IsNet};
 ghost use Rattle.kn_model.specs.Paths.{decided, ways, runs_from, path_of, event_paths};
 ghost use Rattle.netsym.specs.Views.{literal_of};
-ghost use Rattle.netsym.specs.Branch.{fits, path_fits, here_without_mail};
+ghost use Rattle.netsym.specs.Events.{event_of, handler_of};
+ghost use Rattle.netsym.specs.Deciding.{live_of, lives};
+ghost use Rattle.netsym.specs.Running.{here_of, IsIn};
+ghost use Rattle.netsym.specs.Keeping.{path_lives};
 
+use crate::explore::event::{Event, begin};
+use crate::explore::here::{Spot, links_of};
+use crate::explore::mail::Mail;
 use crate::explore::state::{FailKind, NodeState};
-use crate::explore::step::{Place, Stepped, fail, step};
-use crate::explore::value::Decision;
+use crate::explore::step::{Stepped, fail, step};
+use crate::explore::value::{Decision, Keep};
 use crate::explore::way::WaySoFar;
-use crate::net::Net;
+use crate::plan::program_of;
+use kn_plan::Net;
 use kn_trace::Trace;
 use std::alloc::{AllocError, Global};
 use std::marker::Model;
 
-/// A way through an event: its bits, its decisions and the state after it.
+/// A way through an event: its bits, its decisions, the state after it and what it sent.
 #[derive(Debug, Drop)]
 pub struct PathTaken {
     pub bits: Trace,
     pub literals: Vec<Decision>,
     pub state: NodeState,
+    pub sends: Vec<Mail>,
 }
 
 impl Model for PathTaken {
-    ghost use Rattle.std.specs.Prelude.{map, []};
+    ghost use Rattle.std.specs.Prelude.{map};
     ghost use Rattle.kn_model.specs.Terms.{Term};
     ghost use Rattle.kn_model.specs.Paths.{Path};
     ghost use Rattle.netsym.specs.Views.{literal_of};
@@ -36,20 +45,22 @@ impl Model for PathTaken {
 
     ghost coded = { Prim.hlevel (codes, term_code) };
 
-    ghost view = { λ p. record { bits = p.bits; literals = map literal_of p.literals.items; state = p.state; sends = [] } };
+    ghost view = { λ p. record { bits = p.bits; literals = map literal_of p.literals.items; state = p.state; sends = p.sends.items } };
 }
 
-/// Appends the paths of a way that fit, with so many instructions left.
+/// Appends the paths of a way that pass, with so many instructions left.
 #[cycle(ways)]
 fn run(
     net: &Net,
-    place: Place,
-    fuel: u16,
+    keep: Keep,
+    spot: &Spot,
+    fuel: u32,
     way: WaySoFar,
     out: &mut Vec<PathTaken>,
 ) -> Result<(), AllocError>
-    requires { place.node < length net.now.nodes }
-    ensures { OnOk result (out.new.items ≡ out.old.items ++ map (path_of terms) (filter fits (ways terms (here_without_mail net.now place.node place.tick) fuel way))) }
+    requires spot { IsIn net.now spot.now }
+    requires lives { lives (live_of keep) way ≡ true }
+    ensures { OnOk result (out.new.items ≡ out.old.items ++ map (path_of terms) (filter (lives (live_of keep)) (ways terms (here_of net.now spot.now) fuel way))) }
 {
     let mut way = way;
     if !way.state().is_running() {
@@ -57,56 +68,59 @@ fn run(
         return Ok(());
     }
     if fuel == 0 {
-        fail(place, FailKind::Fuel, &mut way);
+        fail(spot.tick, FailKind::Fuel, &mut way);
         out.push(way.finish()?)?;
         return Ok(());
     }
-    match step(net, place, way)? {
-        Stepped::Goes(next) => run(net, place, fuel - 1, next, out),
+    match step(net, spot, way)? {
+        Stepped::Goes(next) => run(net, keep, spot, fuel - 1, next, out),
         Stepped::Stops(last) => {
             out.push(last.finish()?)?;
             Ok(())
         }
         Stepped::Decides(decision, stays, turns) => {
-            follow(net, place, fuel - 1, false, decision, stays, out)?;
-            follow(net, place, fuel - 1, true, decision.negated(), turns, out)
+            follow(net, keep, spot, fuel - 1, false, decision, stays, out)?;
+            follow(net, keep, spot, fuel - 1, true, decision.negated(), turns, out)
         }
     }
 }
 
-/// Appends the paths of a way after a decision, none where the decision clashes with an earlier one or can't hold.
+/// Appends the paths of a way after a decision, none where its conditions do not pass.
 #[cycle(ways)]
 fn follow(
     net: &Net,
-    place: Place,
-    fuel: u16,
+    keep: Keep,
+    spot: &Spot,
+    fuel: u32,
     bit: bool,
     decision: Decision,
     way: WaySoFar,
     out: &mut Vec<PathTaken>,
 ) -> Result<(), AllocError>
-    requires { place.node < length net.now.nodes }
-    ensures { OnOk result (out.new.items ≡ out.old.items ++ map (path_of terms) (filter fits (ways terms (here_without_mail net.now place.node place.tick) fuel (decided terms bit (literal_of decision) way)))) }
+    requires spot { IsIn net.now spot.now }
+    requires lives { lives (live_of keep) way ≡ true }
+    ensures { OnOk result (out.new.items ≡ out.old.items ++ map (path_of terms) (filter (lives (live_of keep)) (ways terms (here_of net.now spot.now) fuel (decided terms bit (literal_of decision) way)))) }
 {
-    let _valid = net.program(place.node);
-    if !way.admits(decision) {
+    if !way.admits(keep, decision) {
         return Ok(());
     }
     let mut way = way;
     way.decide(bit, decision)?;
-    run(net, place, fuel, way, out)
+    run(net, keep, spot, fuel, way, out)
 }
 
-/// The paths of a way that fit, from a handler's entry on; the way itself where the handler is absent.
+/// The paths of a way that pass, from a handler's entry on; the way itself where the handler is absent.
 fn handle(
     alloc: Global,
     net: &Net,
-    place: Place,
+    keep: Keep,
+    spot: &Spot,
     entry: Option<u16>,
     way: WaySoFar,
 ) -> Result<Vec<PathTaken>, AllocError>
-    requires { place.node < length net.now.nodes }
-    ensures { IfOk result (λ v. v.items ≡ map (path_of terms) (filter fits (runs_from terms (here_without_mail net.now place.node place.tick) entry way))) }
+    requires spot { IsIn net.now spot.now }
+    requires lives { lives (live_of keep) way ≡ true }
+    ensures { IfOk result (λ v. v.items ≡ map (path_of terms) (filter (lives (live_of keep)) (runs_from terms (here_of net.now spot.now) entry way))) }
 {
     let mut out = Vec::new(alloc);
     let Some(entry) = entry else {
@@ -115,22 +129,40 @@ fn handle(
     };
     let mut way = way;
     way.jump(entry);
-    run(net, place, net.fuel(), way, &mut out)?;
+    run(net, keep, spot, net.limits.fuel, way, &mut out)?;
     Ok(out)
 }
 
-/// The paths of a node's boot that fit.
-pub fn boot_paths(
+/// The paths of a node's due event that pass.
+pub fn event_paths(
     alloc: Global,
     net: &Net,
-    place: Place,
+    keep: Keep,
+    node: u32,
+    tick: u32,
+    event: Event,
     state: &NodeState,
 ) -> Result<Vec<PathTaken>, AllocError>
-    requires { place.node < length net.now.nodes }
-    ensures { IfOk result (λ v. v.items ≡ filter path_fits (event_paths terms net.now place.node place.tick Boot state.now)) }
+    requires sound { IsNet net.now }
+    requires node { node < length net.now.nodes }
+    requires early { tick < net.now.limits.ticks }
+    requires due { due net.now.limits.ticks tick state.now ≡ Some (event_of event) }
+    requires low { handler_of event < 10 }
+    requires lives { live_of keep state.now.own ≡ true }
+    ensures { IfOk result (λ v. v.items ≡ filter (path_lives (live_of keep)) (event_paths terms net.now node tick (event_of event) state.now)) }
 {
+    net.bounds();
+    let _bare = state.is_booted();
     let mut state = state.copy()?;
-    state.set_booted();
-    let entry = net.program(place.node).boot();
-    handle(alloc, net, place, entry, WaySoFar::new(alloc, state))
+    let mail = begin(event, tick, &mut state);
+    let links = links_of(alloc, net, node)?;
+    let spot = Spot {
+        node,
+        tick,
+        links,
+        mail,
+    };
+    let entry = program_of(net, node).handler(event.handler());
+    let paths = handle(alloc, net, keep, &spot, entry, WaySoFar::new(alloc, state))?;
+    Ok(paths)
 }

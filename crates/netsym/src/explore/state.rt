@@ -1,13 +1,17 @@
 //! The state of a node.
 
-ghost use Rattle.std.specs.Prelude.{◌≡◌, ◌++◌, map, ◌+◌, ◌-◌, ◌<◌, ◌≤◌, ◌^◌, [], true, false, IfOk, OnOk, slice_set, slice_index_or, length};
+ghost use Rattle.std.specs.Prelude.{◌≡◌, ◌++◌, map, ◌+◌, ◌-◌, ◌<◌, ◌≤◌, ◌^◌, [], ◌∷◌, true, false, IfOk, OnOk, OnErr, MatchOption, Some, None, slice_set, slice_index_or, take, drop, length};
 ghost use Rattle.kn_model.specs.Terms.{Word, terms};
+ghost use Rattle.kn_model.specs.Packets.{first_at, without_first, put_in, packet_le};
 ghost use Rattle.kn_model.specs.Nodes.{is_running, state_of};
-ghost use Rattle.kn_model.specs.Deciding.{IsPlain, clashes};
+ghost use Rattle.kn_model.specs.Rows.{span};
+ghost use Rattle.kn_model.specs.Deciding.{IsPlain};
 ghost use Rattle.netsym.specs.Views.{term_of, literal_of, outcome_of, is_failed};
-ghost use Rattle.netsym.specs.Branch.{IsQuietState};
+ghost use Rattle.netsym.specs.Writing.{written_of};
+ghost use Rattle.netsym.specs.Running.{IsBareState};
 
-use crate::explore::value::{Decision, Value};
+use crate::explore::mail::{Mail, copy_mails, place_at, put_in_order};
+use crate::explore::value::{Decision, Keep, Value, tidy};
 use kn_trace::Trace;
 use std::alloc::{AllocError, Global};
 use std::marker::Model;
@@ -28,11 +32,15 @@ pub enum Outcome {
     Failed { kind: FailKind, pc: u16, tick: u32 },
 }
 
-/// What the events of a node read and change. Some inputs may meet its own condition: no two decisions oppose each other, and each on a word holds.
+/// What the events of a node read and change. The node loses no packet, is given none twice, never boots again, and its
+/// memory stays 0.
 #[derive(Debug, Drop)]
 pub struct NodeState {
     registers: Vec<Value>,
+    timers: [Option<u32>; 8],
+    queue: Vec<Mail>,
     inputs: u32,
+    sent: u32,
     booted: bool,
     outcome: Outcome,
     trace: Trace,
@@ -40,10 +48,9 @@ pub struct NodeState {
 }
 
 impl Model for NodeState {
-    ghost use Rattle.std.specs.Prelude.{◌≡◌, ◌≤◌, map, length, false};
+    ghost use Rattle.std.specs.Prelude.{◌≡◌, ◌≤◌, map, length};
     ghost use Rattle.kn_model.specs.Terms.{Term};
     ghost use Rattle.kn_model.specs.Nodes.{State};
-    ghost use Rattle.kn_model.specs.Deciding.{clashes};
     ghost use Rattle.netsym.specs.Views.{term_of, literal_of, outcome_of, state_with};
     ghost use Rattle.std.specs.Coded.{codes};
     ghost use Rattle.netsym.specs.TermCode.{term_code};
@@ -52,10 +59,11 @@ impl Model for NodeState {
 
     ghost coded = { Prim.hlevel (codes, term_code) };
 
-    ghost view = { λ s. state_with (map term_of s.registers.items) s.inputs s.booted (outcome_of s.outcome) s.trace (map literal_of s.own.items) };
+    ghost view = { λ s. state_with (map term_of s.registers.items) s.timers s.queue.items s.inputs s.sent s.booted (outcome_of s.outcome) s.trace (map literal_of s.own.items) };
 
-    ghost invariant = { λ s. (length s.registers.items ≡ 16) × (s.inputs ≤ 65535) × (clashes (map literal_of s.own.items) ≡ false) };
+    ghost invariant = { λ s. (length s.registers.items ≡ 16) × (length s.timers ≡ 8) × (s.inputs ≤ 65535) × (s.sent ≤ 65535) };
 }
+
 
 impl NodeState {
     /// A node at its start.
@@ -64,7 +72,10 @@ impl NodeState {
     {
         Ok(NodeState {
             registers: vec![in alloc; Value::Word(0); 16]?,
+            timers: [None; 8],
+            queue: Vec::new(alloc),
             inputs: 0,
+            sent: 0,
             booted: false,
             outcome: Outcome::Running,
             trace: Trace::new(alloc),
@@ -76,9 +87,13 @@ impl NodeState {
     pub fn copy(&self) -> Result<NodeState, AllocError>
         ensures { IfOk result (λ s. s ≡ self.now) }
     {
+        let alloc = *self.own.allocator();
         Ok(NodeState {
             registers: self.registers.clone()?,
+            timers: self.timers,
+            queue: copy_mails(alloc, &self.queue)?,
             inputs: self.inputs,
+            sent: self.sent,
             booted: self.booted,
             outcome: self.outcome,
             trace: self.trace.copy()?,
@@ -86,10 +101,10 @@ impl NodeState {
         })
     }
 
-    /// Whether it has begun to boot. Nothing but a boot can be due.
+    /// Whether it has begun to boot.
     pub fn is_booted(&self) -> bool
         ensures value { result ≡ self.now.booted }
-        ensures quiet { IsQuietState self.now }
+        ensures bare { IsBareState self.now }
     {
         self.booted
     }
@@ -122,13 +137,27 @@ impl NodeState {
         &self.trace
     }
 
-    /// Its own condition: its decisions so far, each on a word or on an input of one bit.
+    /// Its own condition: its decisions, and those of the packets it was sent, each on a word or on an input of one bit.
     pub fn own(&self) -> &[Decision]
         ensures value { map literal_of result.now ≡ self.now.own }
         ensures plain { IsPlain self.now.own }
-        ensures fits { clashes self.now.own ≡ false }
     {
         &self.own
+    }
+
+    /// The packets that were sent to it and have not come yet, by arrival, sender and sequence number.
+    pub fn queue(&self) -> &[Mail]
+        ensures { result.now ≡ self.now.queue }
+    {
+        &self.queue
+    }
+
+    /// The tick that each of its eight timers is set to.
+    pub fn timers(&self) -> &[Option<u32>]
+        ensures value { result.now ≡ self.now.timers }
+        ensures eight { length result.now ≡ 8 }
+    {
+        self.timers.as_slice()
     }
 
     /// The value of a register, by its number below 16.
@@ -139,6 +168,18 @@ impl NodeState {
         self.registers[a as usize]
     }
 
+    /// The values of so many registers from one on.
+    #[tactic(auto, using(crate::proofs::Edits::edits))]
+    pub fn span(&self, b: u8, n: u8) -> Result<Vec<Value>, AllocError>
+        requires { b + n ≤ 16 }
+        ensures { IfOk result (λ v. map term_of v.items ≡ span terms self.now.registers b n) }
+    {
+        let first = b as usize;
+        let last = first + n as usize;
+        let values = Vec::from_slice(*self.own.allocator(), &self.registers[first..last])?;
+        Ok(values)
+    }
+
     /// Sets a register, by its number below 16.
     #[tactic(auto, using(crate::proofs::Edits::edits))]
     pub fn set_register(&mut self, a: u8, value: Value)
@@ -146,6 +187,15 @@ impl NodeState {
         ensures { self.new ≡ record self.old { registers = slice_set self.old.registers a (term_of value) } }
     {
         self.registers[a as usize] = value;
+    }
+
+    /// Sets a timer to a tick, or unsets it, by its number below 8.
+    #[tactic(auto, using(crate::proofs::Edits::edits))]
+    pub fn set_timer(&mut self, number: u8, tick: Option<u32>)
+        requires { number < 8 }
+        ensures { self.new ≡ record self.old { timers = slice_set self.old.timers number tick } }
+    {
+        self.timers[number as usize] = tick;
     }
 
     /// Says how the node ended.
@@ -178,14 +228,67 @@ impl NodeState {
         self.inputs += 1;
     }
 
+    /// How many packets the node has sent, at most 65,535.
+    pub fn sent(&self) -> u32
+        ensures value { result ≡ self.now.sent }
+        ensures most { result ≤ 65535 }
+    {
+        self.sent
+    }
+
+    /// One packet more is sent.
+    pub fn count_sent(&mut self)
+        requires { self.old.sent < 65535 }
+        ensures { self.new ≡ record self.old { sent = self.old.sent + 1 } }
+    {
+        self.sent += 1;
+    }
+
+    /// Takes the first packet that arrives at a tick out of the queue.
+    pub fn take_mail(&mut self, tick: u32) -> Option<Mail>
+        ensures mail { result ≡ first_at tick self.old.queue }
+        ensures others { self.new ≡ record self.old { queue = without_first tick self.old.queue } }
+    {
+        let place = place_at(&self.queue, tick)?;
+        Some(self.queue.remove(place))
+    }
+
+    /// Puts a packet into the queue, before the first one that it does not come after.
+    pub fn put_mail(&mut self, mail: Mail) -> Result<(), AllocError>
+        ensures { OnOk result (self.new ≡ record self.old { queue = put_in packet_le mail self.old.queue }) }
+    {
+        put_in_order(&mut self.queue, mail)
+    }
+
     /// The bits join the trace, and the decisions the own condition.
     #[tactic(auto, using(crate::proofs::Edits::edits))]
     pub fn decide(&mut self, bits: &Trace, decisions: &[Decision]) -> Result<(), AllocError>
-        requires { clashes (self.old.own ++ map literal_of decisions.now) ≡ false }
         ensures { OnOk result (self.new ≡ record self.old { trace = self.old.trace ++ bits.now; own = self.old.own ++ map literal_of decisions.now }) }
     {
         self.own.extend_from_slice(decisions)?;
         self.trace.extend(bits)?;
         Ok(())
+    }
+
+    /// Decisions of others join the own condition.
+    #[tactic(auto, using(crate::proofs::Edits::edits))]
+    pub fn join(&mut self, guard: &[Decision]) -> Result<(), AllocError>
+        ensures { OnOk result (self.new ≡ record self.old { own = self.old.own ++ map literal_of guard.now }) }
+    {
+        self.own.extend_from_slice(guard)?;
+        Ok(())
+    }
+
+    /// The own condition is written as the exploration holds it.
+    pub fn rewrite_own(&mut self, keep: Keep) -> Result<(), AllocError>
+        ensures { OnOk result (self.new ≡ record self.old { own = written_of keep self.old.own }) }
+    {
+        match keep {
+            Keep::All => Ok(()),
+            Keep::Possible => {
+                self.own = tidy(*self.own.allocator(), &self.own)?;
+                Ok(())
+            }
+        }
     }
 }

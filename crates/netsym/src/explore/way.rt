@@ -1,34 +1,40 @@
 //! A way through an event.
 
-ghost use Rattle.std.specs.Prelude.{◌≡◌, ◌+◌, ◌-◌, ◌<◌, ◌≤◌, ◌^◌, [], ◌∷◌, ◌++◌, IfOk, OnOk, Some, true, false, slice_index_or};
+ghost use Rattle.std.specs.Prelude.{◌≡◌, ◌+◌, ◌-◌, ◌<◌, ◌≤◌, ◌^◌, [], ◌∷◌, ◌++◌, map, length, IfOk, OnOk, Some, true, false, slice_index_or};
+ghost use Rattle.std.specs.Arc.{arc_value};
 ghost use Rattle.kn_model.specs.Terms.{Word, terms};
-ghost use Rattle.kn_model.specs.Rows.{next, jump, register, with_register, with_outcome, counted};
+ghost use Rattle.kn_model.specs.Rows.{next, jump, register, with_register, with_timer, with_outcome, counted, sent_on, span};
 ghost use Rattle.kn_model.specs.Paths.{decided, first_way, path_of};
-ghost use Rattle.kn_model.specs.Deciding.{clashes};
 ghost use Rattle.netsym.specs.Views.{term_of, literal_of, outcome_of};
-ghost use Rattle.netsym.specs.Branch.{fits};
+ghost use Rattle.netsym.specs.Deciding.{live_of, lives};
+ghost use Rattle.netsym.specs.Running.{sender_here};
+ghost use Rattle.netsym.specs.Sending.{IsLetterOf};
 
+use crate::explore::here::Spot;
+use crate::explore::mail::{Letter, Mail, copy_mails};
 use crate::explore::path::PathTaken;
 use crate::explore::state::{NodeState, Outcome};
-use crate::explore::value::{Decision, Value, are_opposed};
+use crate::explore::value::{Decision, Keep, Value};
+use kn_plan::Link;
 use kn_trace::Trace;
 use std::alloc::{AllocError, Global};
 use std::marker::Model;
+use std::sync::Arc;
 
-/// A way so far: its state, the instruction that comes next, its bits and its decisions. Its decisions do not clash with each other or with the node's own condition before.
+/// A way so far: its state, the instruction that comes next, its bits, its decisions and what it sent.
 #[derive(Debug, Drop)]
 pub struct WaySoFar {
     state: NodeState,
     pc: u16,
     bits: Trace,
     literals: Vec<Decision>,
+    sends: Vec<Mail>,
 }
 
 impl Model for WaySoFar {
-    ghost use Rattle.std.specs.Prelude.{◌≡◌, ◌++◌, [], map, false};
+    ghost use Rattle.std.specs.Prelude.{map};
     ghost use Rattle.kn_model.specs.Terms.{Term};
     ghost use Rattle.kn_model.specs.Rows.{Way};
-    ghost use Rattle.kn_model.specs.Deciding.{clashes};
     ghost use Rattle.netsym.specs.Views.{literal_of};
     ghost use Rattle.std.specs.Coded.{codes};
     ghost use Rattle.netsym.specs.TermCode.{term_code};
@@ -37,9 +43,7 @@ impl Model for WaySoFar {
 
     ghost coded = { Prim.hlevel (codes, term_code) };
 
-    ghost view = { λ w. record { state = w.state; pc = w.pc; bits = w.bits; literals = map literal_of w.literals.items; sends = [] } };
-
-    ghost invariant = { λ w. clashes (w.state.own ++ map literal_of w.literals.items) ≡ false };
+    ghost view = { λ w. record { state = w.state; pc = w.pc; bits = w.bits; literals = map literal_of w.literals.items; sends = w.sends.items } };
 }
 
 impl WaySoFar {
@@ -47,12 +51,12 @@ impl WaySoFar {
     pub fn new(alloc: Global, state: NodeState) -> WaySoFar
         ensures { result ≡ first_way terms state }
     {
-        let _fits = state.own();
         WaySoFar {
             state,
             pc: 0,
             bits: Trace::new(alloc),
             literals: Vec::new(alloc),
+            sends: Vec::new(alloc),
         }
     }
 
@@ -65,13 +69,13 @@ impl WaySoFar {
             pc: self.pc,
             bits: self.bits.copy()?,
             literals: self.literals.clone()?,
+            sends: copy_mails(*self.sends.allocator(), &self.sends)?,
         })
     }
 
     /// The state so far; its trace and own condition are those of before the event.
     pub fn state(&self) -> &NodeState
-        ensures value { result.now ≡ self.now.state }
-        ensures fits { fits self.now ≡ true }
+        ensures { result.now ≡ self.now.state }
     {
         &self.state
     }
@@ -89,6 +93,14 @@ impl WaySoFar {
         ensures most { result ≤ 65535 }
     {
         self.state.inputs()
+    }
+
+    /// How many packets the node has sent, at most 65,535.
+    pub fn sent(&self) -> u32
+        ensures value { result ≡ self.now.state.sent }
+        ensures most { result ≤ 65535 }
+    {
+        self.state.sent()
     }
 
     /// The value of a register, by its number below 16.
@@ -122,6 +134,14 @@ impl WaySoFar {
         self.state.set_register(a, value);
     }
 
+    /// Sets a timer to a tick, or unsets it, by its number below 8.
+    pub fn set_timer(&mut self, number: u8, tick: Option<u32>)
+        requires { number < 8 }
+        ensures { self.new ≡ with_timer terms self.old number tick }
+    {
+        self.state.set_timer(number, tick);
+    }
+
     /// Says how the node ended.
     pub fn set_outcome(&mut self, outcome: Outcome)
         ensures { self.new ≡ with_outcome terms self.old (outcome_of outcome) }
@@ -137,24 +157,57 @@ impl WaySoFar {
         self.state.count_input();
     }
 
-    /// Whether a decision clashes with none before it, and can hold.
-    pub fn admits(&self, decision: Decision) -> bool
-        ensures { result ≡ fits (decided terms false (literal_of decision) self.now) }
+    /// What a `send` of so many registers from one on sends now.
+    #[tactic(auto, using(crate::proofs::Edits::edits))]
+    pub fn letter(&self, b: u8, n: u8) -> Result<Letter, AllocError>
+        requires { b + n ≤ 16 }
+        ensures letter { IfOk result (λ l. IsLetterOf self.now (span terms self.now.state.registers b n) l) }
+        ensures short { IfOk result (λ l. length l.words.items ≤ 16) }
+    {
+        let mut guard = Vec::new(*self.literals.allocator());
+        guard.extend_from_slice(self.state.own())?;
+        guard.extend_from_slice(&self.literals)?;
+        Ok(Letter {
+            words: self.state.span(b, n)?,
+            guard,
+            bits: self.bits.copy()?,
+        })
+    }
+
+    /// Sends a letter over a link.
+    #[tactic(auto, using(crate::proofs::Edits::edits))]
+    pub fn send(&mut self, spot: &Spot, letter: &Arc<Letter, Global>, link: Link) -> Result<(), AllocError>
+        requires few { self.old.state.sent < 65535 }
+        requires node { spot.now.node < 64 }
+        requires early { spot.now.tick ≤ 4096 }
+        requires delay { link.delay ≤ 65535 }
+        requires short { length (arc_value letter.now).words.items ≤ 16 }
+        requires letter { IsLetterOf self.old (map term_of (arc_value letter.now).words.items) (arc_value letter.now) }
+        ensures { OnOk result (self.new ≡ sent_on terms (sender_here spot.now) (map term_of (arc_value letter.now).words.items) link self.old) }
+    {
+        self.sends.push(Mail {
+            from: spot.node,
+            seq: self.state.sent(),
+            to: link.to,
+            arrival: spot.tick + link.delay,
+            letter: Arc::try_clone(letter)?,
+        })?;
+        self.state.count_sent();
+        Ok(())
+    }
+
+    /// Whether the way still passes with one decision more.
+    pub fn admits(&self, keep: Keep, decision: Decision) -> bool
+        requires { lives (live_of keep) self.now ≡ true }
+        ensures { result ≡ lives (live_of keep) (decided terms false (literal_of decision) self.now) }
     {
         let own = self.state.own();
-        if decision.is_false() {
-            return false;
-        }
-        if are_opposed(own, decision) {
-            return false;
-        }
-        !are_opposed(&self.literals, decision)
+        keep.admits(own, &self.literals, decision)
     }
 
     /// Decides, with a bit.
     #[tactic(auto, using(crate::proofs::Edits::edits))]
     pub fn decide(&mut self, bit: bool, decision: Decision) -> Result<(), AllocError>
-        requires { fits (decided terms false (literal_of decision) self.old) ≡ true }
         ensures { OnOk result (self.new ≡ decided terms bit (literal_of decision) self.old) }
     {
         self.literals.push(decision)?;
@@ -165,14 +218,14 @@ impl WaySoFar {
     /// The path of a way that has ended.
     #[tactic(auto, using(crate::proofs::Edits::edits))]
     pub fn finish(self) -> Result<PathTaken, AllocError>
-        ensures path { IfOk result (λ p. p ≡ path_of terms self) }
-        ensures fits { fits self ≡ true }
+        ensures { IfOk result (λ p. p ≡ path_of terms self) }
     {
         let WaySoFar {
             state,
             pc: _,
             bits,
             literals,
+            sends,
         } = self;
         let mut state = state;
         state.decide(&bits, &literals)?;
@@ -180,6 +233,7 @@ impl WaySoFar {
             bits,
             literals,
             state,
+            sends,
         })
     }
 }

@@ -5,35 +5,15 @@ ghost use Rattle.std.specs.List.{AllByRecursion};
 ghost use Rattle.kn_model.specs.Deciding.{IsPlain, is_false, clashes, forced, joined};
 ghost use Rattle.kn_model.specs.Reports.{singles};
 ghost use Rattle.netsym.specs.Views.{literal_of, outcome_of};
-ghost use Rattle.netsym.specs.Branch.{opposed_by};
 ghost use Rattle.netsym.specs.ReportViews.{reach_view};
 ghost use Rattle.netsym.specs.Listing.{line_of, lines_from, numbers, reach_of, failures_in, is_failure, report_of};
 ghost use Rattle.netsym.specs.Plain.{ArePlain, AreLong};
 
-use crate::explore::{Decision, NodeState, Outcome, Scenario, are_opposed};
-use crate::net::Net;
+use crate::explore::{Decision, NodeState, Outcome, Scenario, clash};
 use crate::report::{Columns, FailureLine, Mapping, Pick, Reached, Report, Standing, StateLine};
 use crate::valuation::forced_inputs;
+use kn_plan::Net;
 use std::alloc::{AllocError, Global};
-
-/// Whether a decision clashes by itself, or with one of these.
-fn clashes_with(earlier: &[Decision], decision: Decision) -> bool
-    ensures { result ≡ is_false (literal_of decision) || opposed_by (literal_of decision) (map literal_of earlier.now) }
-{
-    decision.is_false() || are_opposed(earlier, decision)
-}
-
-/// Whether decisions clash: one on a word does not hold, or two on one input have different truths.
-fn clash(decisions: &[Decision]) -> bool
-    ensures { result ≡ clashes (map literal_of decisions.now) }
-{
-    for (place, decision) in decisions.iter().enumerate() {
-        if clashes_with(&decisions[..place], *decision) {
-            return true;
-        }
-    }
-    false
-}
 
 /// The own conditions of a scenario's nodes, joined.
 fn joint_condition(alloc: Global, scenario: &Scenario) -> Result<Vec<Decision>, AllocError>
@@ -162,7 +142,8 @@ pub fn report_from(alloc: Global, net: &Net, scenarios: &[Scenario]) -> Result<R
     ensures report { IfOk result (λ r. r ≡ report_of net.now scenarios.now) }
     ensures plain { OnOk result (ArePlain scenarios.now) }
 {
-    let nodes = net.node_count();
+    net.bounds();
+    let nodes = net.nodes.len() as u32;
     let mut states = Vec::new(alloc);
     let mut dstates = Vec::new(alloc);
     let mut failures = Vec::new(alloc);
@@ -174,7 +155,7 @@ pub fn report_from(alloc: Global, net: &Net, scenarios: &[Scenario]) -> Result<R
     }
     Ok(Report {
         mapping: Mapping::Cob,
-        ticks: net.ticks(),
+        ticks: net.limits.ticks,
         nodes,
         states,
         dstates,

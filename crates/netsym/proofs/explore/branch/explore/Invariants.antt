@@ -1,5 +1,6 @@
-use Rattle.netsym.specs.Branch.{IsAt}
+use Rattle.std.proofs.Common.{◌≡◌, map}
+use Rattle.netsym.specs.Keeping.{states_in}
 use Rattle.netsym.proofs.explore.branch.explore.Given as goal
 
-abbrev pub invariant-loop-tick : goal.invariant-loop-tick
-invariant-loop-tick l = IsAt l.net l.tick l.list.items
+abbrev pub invariant-loop-copy : goal.invariant-loop-copy
+invariant-loop-copy l = l.scenarios.items ≡ map states_in l.yielded

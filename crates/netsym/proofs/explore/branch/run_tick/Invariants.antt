@@ -1,5 +1,12 @@
-use Rattle.netsym.proofs.Branching.{IsWithin}
+use Rattle.std.proofs.Common.{◌≡◌}
+use Rattle.netsym.specs.Deciding.{live_of}
+use Rattle.netsym.specs.Writing.{written_of}
+use Rattle.netsym.specs.Keeping.{AreKept}
+use Rattle.netsym.specs.Holding.{run_nodes}
 use Rattle.netsym.proofs.explore.branch.run_tick.Given as goal
 
 abbrev pub invariant-loop-node : goal.invariant-loop-node
-invariant-loop-node l = IsWithin l.net l.tick l.node l.list.items
+invariant-loop-node l = record {
+  made : l.list.items ≡ run_nodes (live_of l.keep) (written_of l.keep) l.net l.tick l.node l.fn.list.items;
+  kept : AreKept (live_of l.keep) l.net l.list.items;
+}

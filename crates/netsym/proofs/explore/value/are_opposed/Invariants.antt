@@ -1,6 +1,6 @@
 use Rattle.std.proofs.Common.{◌≡◌, map, drop}
 use Rattle.netsym.specs.Views.{literal_of}
-use Rattle.netsym.specs.Branch.{opposed_by}
+use Rattle.netsym.specs.Deciding.{opposed_by}
 use Rattle.netsym.proofs.explore.value.are_opposed.Given as goal
 
 abbrev pub invariant-loop-earlier : goal.invariant-loop-earlier

@@ -1,0 +1,2 @@
+use Rattle.netsym.proofs.explore.copies.NodeNow.receive.Goals as goal
+
