@@ -79,7 +79,7 @@ pub prefixes_over : PrefixesOver
 prefixes_over = record {
   number = 0;
   scenario = begin 1;
-  met = record { start = begin 1; member = (0, omega arith, refl); before = begin 1; reached = (0, omega arith, refl); count = 0; turned = (0, omega arith, refl) };
+  met = record { inside = omega arith; start = begin 1; member = (0, omega arith, refl); before = begin 1; reached = (0, omega arith, refl); count = 0; turned = (0, omega arith, refl) };
   node = node_at terms (begin 1) 0;
   there = refl;
   prefixes = (o ∷ []) ∷ (i ∷ []) ∷ [];

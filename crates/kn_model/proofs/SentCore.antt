@@ -126,7 +126,7 @@ held_at = by_number Held_at (λ h e. absurd cc) (λ h e. absurd cc) (λ h e. (re
 boots : (h : Held) → (view 2).held ≡ Some h → RunsIn core (view 2) h
 boots h e = record {
   scenario = here;
-  met = record { start = opening terms sending; member = (0, omega arith, refl); before = here; reached = (0, omega arith, refl); count = 0; turned = (0, omega arith, refl) };
+  met = record { inside = omega arith; start = opening terms sending; member = (0, omega arith, refl); before = here; reached = (0, omega arith, refl); count = 0; turned = (0, omega arith, refl) };
   node = node_at terms here 1;
   there = refl;
   with_history = refl;

@@ -84,7 +84,7 @@ same_plain (Word w) (Input n k width) e p = absurd cc
 same_plain (Word w) (Apply op x y) e p = absurd cc
 same_plain (Word w) (Choice c x y) e p = absurd cc
 same_plain (Input n k width) (Word w) e p = absurd cc
-same_plain (Input n k width) (Input m j wide) e p = sym (eqb-true width wide (both_right (nat_eq k j) (nat_eq width wide) (both_right (nat_eq n m) (nat_eq k j && nat_eq width wide) e))) ∙ p
+same_plain (Input n k width) (Input m j wide) e p = sym (eqb-true width wide (both_right (nat_eq n m && nat_eq k j) (nat_eq width wide) e)) ∙ p
 same_plain (Input n k width) (Apply op x y) e p = absurd cc
 same_plain (Input n k width) (Choice c x y) e p = absurd cc
 same_plain (Apply op x y) t e p = absurd p
@@ -92,11 +92,11 @@ same_plain (Choice c x y) t e p = absurd p
 
 listed_plain : (l : Literal Term) (c : Condition) → has_literal l c ≡ true → IsPlain c → IsPlainTerm l.value
 listed_plain l [] e p = absurd cc
-listed_plain l (m ∷ c) e p = go (same_literal m l) refl e
+listed_plain l (m ∷ c) e p = go (same_literal m l) refl e (λ h. listed_plain l c h p.1)
   where
-    go : (b : Bool) → same_literal m l ≡ b → b || has_literal l c ≡ true → IsPlainTerm l.value
-    go true h e = same_plain m.value l.value (both_left (same_term m.value l.value) (same_bit m.truth l.truth) h) p.0
-    go false h e = listed_plain l c e p.1
+    go : (b : Bool) → same_literal m l ≡ b → b || has_literal l c ≡ true → (has_literal l c ≡ true → IsPlainTerm l.value) → IsPlainTerm l.value
+    go true h e rest = same_plain m.value l.value (both_left (same_term m.value l.value) (same_bit m.truth l.truth) h) p.0
+    go false h e rest = rest e
 
 one_back : (c : Condition) (l : Literal Term) → IsPlain (with_new c l) → IsPlain c × IsPlainTerm l.value
 one_back c l p = go (is_idle l) refl (has_literal l c) refl p
@@ -154,7 +154,7 @@ looks_of_states : (list : List (List Seen)) → map (map look) (map states_in li
 looks_of_states [] = refl
 looks_of_states (ys ∷ list) = ap (λ (l : List Look). l ∷ map (map look) (map states_in list)) (look_at_states ys) ∙ ap (λ (l : List (List Look)). map (λ (y : Seen). look y.state) ys ∷ l) (looks_of_states list)
 
-name_looked : List Look → List (List Bool)
+abbrev name_looked : List Look → List (List Bool)
 name_looked ls = map (λ (l : Look). l.trace) ls
 
 names_looked : (ss : List (State Term)) → name_looked (map look ss) ≡ name_in ss

@@ -9,30 +9,10 @@ use Rattle.kn_model.specs.Terms.{Term}
 use Rattle.kn_model.specs.Nodes.{State}
 use Rattle.kn_model.specs.Deciding.{IsPlain, is_false, clashes, joined}
 use Rattle.kn_model.specs.Reports.{StateLine, FailureLine, singles}
-use Rattle.kn_model.proofs.Clashing.{clash_stays}
 use Rattle.netsym.specs.declared.explore.value.Decision.{Decision}
 use Rattle.netsym.specs.Views.{literal_of}
-use Rattle.netsym.specs.Branch.{opposed_by}
 use Rattle.netsym.specs.Plain.{ArePlain, AreLong}
 use Rattle.netsym.specs.Listing.{lines_from, numbers, reach_of, failures_in, dstates_from, failures_from}
-use Rattle.netsym.proofs.Clashing.{clashes-last}
-
--- the decisions up to a place, and the one there
-pub clashes_more : (ds : List Decision) (i : ℕ) (e d : Decision) (r : Bool) → i < length ds → d ≡ get_or ds i e → clashes (map literal_of (take i ds)) ≡ false
-    → r ≡ (is_false (literal_of d) || opposed_by (literal_of d) (map literal_of (take i ds))) → clashes (map literal_of (take (i + 1) ds)) ≡ r
-clashes_more ds i e d r less is so_far tested =
-    ap (λ (l : List Decision). clashes (map literal_of l)) (take_more ds i e less ∙ ap (λ (x : Decision). take i ds ++ (x ∷ [])) (sym is))
-    ∙ ap clashes (map-append literal_of (take i ds) (d ∷ []))
-    ∙ clashes-last (map literal_of (take i ds)) (literal_of d)
-    ∙ ap (λ (b : Bool). b || (is_false (literal_of d) || opposed_by (literal_of d) (map literal_of (take i ds)))) so_far
-    ∙ sym tested
-
--- what clashes in front clashes in all
-pub clashes_whole : (ds : List Decision) (i : ℕ) → clashes (map literal_of (take i ds)) ≡ true → clashes (map literal_of ds) ≡ true
-clashes_whole ds i clash =
-    ap (λ (l : List Decision). clashes (map literal_of l)) (sym (take-append-drop i ds))
-    ∙ ap clashes (map-append literal_of (take i ds) (drop i ds))
-    ∙ clash_stays (map literal_of (take i ds)) (map literal_of (drop i ds)) clash
 
 pub more_singles : (xs all : List (List ℕ)) (n f k : ℕ) → k < n → xs ++ singles (n - k) (f + k) ≡ all → (xs ++ (((f + k) ∷ []) ∷ [])) ++ singles (n - (k + 1)) (f + (k + 1)) ≡ all
 more_singles xs all n f k less so_far =

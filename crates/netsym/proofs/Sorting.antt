@@ -89,7 +89,7 @@ swap_map f (x ∷ xs) i j =
     ∙ ap (λ m. set m j late) (map-set f l i (get_or l j x) ∙ ap (set (map f l) i) (sym (get_or-map f l j x)))
     ∙ ap (set (set (map f l) i (get_or (map f l) j (f x))) j) (sym (get_or-map f l i x))
 
-swaps_map : {A B : Type 0} (f : A → B) (xs : List A) (moves : List (ℕ × ℕ)) → map f (apply_swaps xs moves) ≡ apply_swaps (map f xs) moves
+pub swaps_map : {A B : Type 0} (f : A → B) (xs : List A) (moves : List (ℕ × ℕ)) → map f (apply_swaps xs moves) ≡ apply_swaps (map f xs) moves
 swaps_map f xs [] = refl
 swaps_map f xs (m ∷ moves) = swap_map f (apply_swaps xs moves) m.0 m.1 ∙ ap (λ l. swap l m.0 m.1) (swaps_map f xs moves)
 

@@ -10,6 +10,7 @@ ghost use Rattle.netsym.specs.Runs.{Answers, IsTold, not_form_line};
 
 use crate::explore::explore;
 use crate::form::{FormFault, read_form};
+use crate::plan::node_count;
 use crate::report::Report;
 use crate::report::making::report_from;
 use crate::report::order::sort_by_name;
@@ -25,10 +26,8 @@ pub fn report_of_net(alloc: Global, net: &Net) -> Result<Report, AllocError>
     ensures given { IfOk result (λ r. Gives r net.now) }
     ensures mapping { IfOk result (λ r. r.mapping ≡ Cob) }
 {
-    net.bounds();
-    let nodes = net.nodes.len() as u32;
     let mut scenarios = explore(alloc, net)?;
-    sort_by_name(nodes, &mut scenarios);
+    sort_by_name(node_count(net), &mut scenarios);
     let report = report_from(alloc, net, &scenarios)?;
     Ok(report)
 }

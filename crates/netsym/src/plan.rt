@@ -1,6 +1,6 @@
 //! What the explorer takes from a network.
 
-ghost use Rattle.std.specs.Prelude.{◌≡◌, ◌<◌, length};
+ghost use Rattle.std.specs.Prelude.{◌≡◌, ◌<◌, ◌≤◌, length};
 ghost use Rattle.kn_code.specs.Code.{IsValid};
 ghost use Rattle.kn_model.specs.Nets.{code_of};
 
@@ -17,4 +17,14 @@ pub fn program_of(net: &Net, node: u32) -> &Program
     let program = &net.programs[plan.program];
     let _instrs = &program.instrs;
     program
+}
+
+/// How many nodes there are, 1 to 64.
+pub fn node_count(net: &Net) -> u32
+    ensures count { result ≡ length net.now.nodes }
+    ensures some { 1 ≤ result }
+    ensures most { result ≤ 64 }
+{
+    net.bounds();
+    net.nodes.len() as u32
 }

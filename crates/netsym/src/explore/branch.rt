@@ -16,6 +16,7 @@ use crate::explore::event::{due, left};
 use crate::explore::path::{PathTaken, event_paths};
 use crate::explore::scenario::Scenario;
 use crate::explore::value::Keep;
+use crate::plan::node_count;
 use kn_plan::Net;
 use std::alloc::{AllocError, Global};
 
@@ -142,9 +143,8 @@ fn run_tick(
     requires kept { AreKept (live_of keep) net.now list.items }
     ensures { IfOk result (λ v. v.items ≡ run_nodes (live_of keep) (written_of keep) net.now tick (length net.now.nodes) list.items) }
 {
-    net.bounds();
     let mut list = list;
-    for node in 0..net.nodes.len() as u32 {
+    for node in 0..node_count(net) {
         list = settle_all(alloc, net, keep, Place { node, tick }, list)?;
     }
     Ok(list)
@@ -199,6 +199,17 @@ pub fn all_copies(alloc: Global, net: &Net, tick: u32) -> Result<Vec<NetworkCopy
     Ok(copies)
 }
 
+/// The states of the nodes of copies.
+fn scenarios_of(alloc: Global, copies: Vec<NetworkCopy>) -> Result<Vec<Scenario>, AllocError>
+    ensures { IfOk result (λ v. v.items ≡ map states_in copies.items) }
+{
+    let mut scenarios = Vec::new(alloc);
+    for copy in copies {
+        scenarios.push(copy.into_scenario())?;
+    }
+    Ok(scenarios)
+}
+
 /// The scenarios of copying on branch at the network's last tick, each once, but for those in which a node's own
 /// condition is impossible: no inputs lead there. Own conditions are written without what says nothing new. The
 /// scenarios come in the order of exploration.
@@ -209,9 +220,6 @@ pub fn explore(alloc: Global, net: &Net) -> Result<Vec<Scenario>, AllocError>
     ensures all { IfOk result (λ v. v.items ≡ map states_in (held_at (live_of Keep.Possible) tidied net.now net.now.limits.ticks)) }
 {
     let copies = copies_at(alloc, net, Keep::Possible, net.limits.ticks)?;
-    let mut scenarios = Vec::new(alloc);
-    for copy in copies {
-        scenarios.push(copy.into_scenario())?;
-    }
+    let scenarios = scenarios_of(alloc, copies)?;
     Ok(scenarios)
 }

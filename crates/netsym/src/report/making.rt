@@ -10,6 +10,7 @@ ghost use Rattle.netsym.specs.Listing.{line_of, lines_from, numbers, reach_of, f
 ghost use Rattle.netsym.specs.Plain.{ArePlain, AreLong};
 
 use crate::explore::{Decision, NodeState, Outcome, Scenario, clash};
+use crate::plan::node_count;
 use crate::report::{Columns, FailureLine, Mapping, Pick, Reached, Report, Standing, StateLine};
 use crate::valuation::forced_inputs;
 use kn_plan::Net;
@@ -142,8 +143,7 @@ pub fn report_from(alloc: Global, net: &Net, scenarios: &[Scenario]) -> Result<R
     ensures report { IfOk result (λ r. r ≡ report_of net.now scenarios.now) }
     ensures plain { OnOk result (ArePlain scenarios.now) }
 {
-    net.bounds();
-    let nodes = net.nodes.len() as u32;
+    let nodes = node_count(net);
     let mut states = Vec::new(alloc);
     let mut dstates = Vec::new(alloc);
     let mut failures = Vec::new(alloc);

@@ -1,10 +1,13 @@
 use Rattle.std.proofs.Common.{ap, Err}
-use Rattle.netsym.proofs.FormNet.{file_is_net}
+use Rattle.netsym.proofs.FormNet.{file_is_net, file_is_bare}
 use Rattle.netsym.proofs.Ends.{refused_answers}
 use Rattle.netsym.proofs.answer.answer.Goals as goal
 
-pub reported-requires : goal.reported-requires
-reported-requires c = file_is_net c.args.bytes.now c.in-Ok.net c.in-Ok.ensures.found
+pub reported-requires-clause-sound : goal.reported-requires-clause-sound
+reported-requires-clause-sound c = file_is_net c.args.bytes.now c.in-Ok.net c.in-Ok.ensures.found
+
+pub reported-requires-clause-bare : goal.reported-requires-clause-bare
+reported-requires-clause-bare c = file_is_bare c.args.bytes.now c.in-Ok.net c.in-Ok.ensures.found
 
 pub returns-in_ok-told-in-Err-NotForm : goal.returns-in_ok-told-in-Err-NotForm
 returns-in_ok-told-in-Err-NotForm c =

@@ -13,5 +13,5 @@ loop-node-preserved c =
     let f = written_of c.args.keep in
     let made : c.in_ok-list.list.items ≡ run_nodes live f c.args.net.now c.args.tick (c.loop-node.node + 1) c.args.list.items =
     one_node live f c.args.net.now c.args.tick c.loop-node.node c.args.list.items c.loop-node.list.items c.in_ok-list.list.items c.loop-node.invariant.made c.in_ok-list.ensures in
-    let last : c.loop-node.node + 1 ≤ length c.args.net.now.nodes = rw (← c.net.view_is) (omega (arith, c.loop-node-test.true, c.len-node-end.ensures, (rw (← c.net.view_is) at c.bounds.ensures.nodes))) in
+    let last : c.loop-node.node + 1 ≤ length c.args.net.now.nodes = omega (arith, c.loop-node-test.true, c.node_count-node-end.ensures.count) in
     record { made = made; kept = subst (AreKept live c.args.net.now) (sym made) (run_kept live f c.args.net.now c.args.tick (c.loop-node.node + 1) c.args.list.items last c.requires.kept) }
