@@ -576,6 +576,147 @@ fn guard_rules_a_failure_out(rt: HostRuntime) -> Result<(), Fail> {
     Ok(())
 }
 
+/// A relay that decides nothing sends on under the guard that it was sent.
+/// - ifsend: `boot: input r0, 1`, `brz r0, a`, `send 0, r0, 1`, `a: ret`
+/// - relay: `recv: recvw r0, 0`, `send 0, r0, 1`, `ret`
+/// - asserts: `recv: recvw r0, 0`, `assert r0`, `ret`
+const GUARD_GOES_ON_OVER_A_RELAY: &str = "version = 1
+ticks = 3
+[[program]]
+name = \"ifsend\"
+code = \"00040000ffffffffffffffffffffffffffffffffffff0a0000000001000009000000000300000d010000000000002300000000000000\"
+[[program]]
+name = \"relay\"
+code = \"0003ffff0000ffffffffffffffffffffffffffffffff0f000000000000000d010000000000002300000000000000\"
+[[program]]
+name = \"asserts\"
+code = \"0003ffff0000ffffffffffffffffffffffffffffffff0f0000000000000020000000000000002300000000000000\"
+[[node]]
+program = \"ifsend\"
+[[node]]
+program = \"relay\"
+[[node]]
+program = \"asserts\"
+[[link]]
+from = 0
+to = 1
+delay = 1
+[[link]]
+from = 1
+to = 2
+delay = 1
+";
+
+const GUARD_GOES_ON_OVER_A_RELAY_REPORT: &str = "report 1 mapping cob ticks 3 nodes 3
+state 0 node 0 trace 0 outcome running inputs 0.0=1
+state 1 node 1 trace - outcome running inputs 0.0=1
+state 2 node 2 trace 0 outcome running inputs 0.0=1
+state 3 node 0 trace 1 outcome running inputs -
+state 4 node 1 trace - outcome running inputs -
+state 5 node 2 trace - outcome running inputs -
+dstate 0 columns 0 1 2
+dstate 1 columns 3 4 5
+end states 6 dstates 2 reached 0 open 0
+";
+
+#[test]
+fn guard_goes_on_over_a_relay(rt: HostRuntime) -> Result<(), Fail> {
+    let ran = call_on(rt.alloc(), GUARD_GOES_ON_OVER_A_RELAY.as_bytes())?;
+    assert_eq!(rt; ran.status, Status::Clean);
+    assert_eq!(rt;
+        ran.text.as_slice(),
+        GUARD_GOES_ON_OVER_A_RELAY_REPORT.as_bytes()
+    );
+    Ok(())
+}
+
+/// Node 1 is sent to and sends in one tick: what it sends does not have the guard of what it was sent. Node 2 has
+/// no link for its broadcast.
+/// - ifsend: `boot: input r0, 1`, `brz r0, a`, `send 0, r0, 1`, `a: ret`
+/// - sends: `boot: send 0, r0, 0`, `ret`
+/// - calls: `boot: bcast r0, 1`, `ret`
+const GUARDS_JOIN_AT_THE_END_OF_THE_TICK: &str = "version = 1
+ticks = 2
+[[program]]
+name = \"ifsend\"
+code = \"00040000ffffffffffffffffffffffffffffffffffff0a0000000001000009000000000300000d010000000000002300000000000000\"
+[[program]]
+name = \"sends\"
+code = \"00020000ffffffffffffffffffffffffffffffffffff0d000000000000002300000000000000\"
+[[program]]
+name = \"calls\"
+code = \"00020000ffffffffffffffffffffffffffffffffffff0e010000000000002300000000000000\"
+[[node]]
+program = \"ifsend\"
+[[node]]
+program = \"sends\"
+[[node]]
+program = \"calls\"
+[[link]]
+from = 0
+to = 1
+delay = 1
+[[link]]
+from = 1
+to = 2
+delay = 1
+";
+
+const GUARDS_JOIN_AT_THE_END_OF_THE_TICK_REPORT: &str = "report 1 mapping cob ticks 2 nodes 3
+state 0 node 0 trace 0 outcome running inputs 0.0=1
+state 1 node 1 trace - outcome running inputs 0.0=1
+state 2 node 2 trace - outcome running inputs -
+state 3 node 0 trace 1 outcome running inputs -
+state 4 node 1 trace - outcome running inputs -
+state 5 node 2 trace - outcome running inputs -
+dstate 0 columns 0 1 2
+dstate 1 columns 3 4 5
+end states 6 dstates 2 reached 0 open 0
+";
+
+#[test]
+fn guards_join_at_the_end_of_the_tick(rt: HostRuntime) -> Result<(), Fail> {
+    let ran = call_on(rt.alloc(), GUARDS_JOIN_AT_THE_END_OF_THE_TICK.as_bytes())?;
+    assert_eq!(rt; ran.status, Status::Clean);
+    assert_eq!(rt;
+        ran.text.as_slice(),
+        GUARDS_JOIN_AT_THE_END_OF_THE_TICK_REPORT.as_bytes()
+    );
+    Ok(())
+}
+
+/// An input of the boot event and one of a timer's; the third decision is on the first input again.
+/// - reads: `boot: input r0, 1`, `mov r1, r0`, `timer 0, 1`, `ret`, `timer0: input r0, 1`, `brz r1, a`,
+/// `a: brz r0, b`, `b: brz r1, c`, `c: ret`
+const INPUTS_OF_TWO_EVENTS: &str = "version = 1
+ticks = 2
+[[program]]
+name = \"reads\"
+code = \"00090000ffff0004ffffffffffffffffffffffffffff0a0000000001000002010000000000000b0000000001000023000000000000000a000000000100000901000000060000090000000007000009010000000800002300000000000000\"
+[[node]]
+program = \"reads\"
+";
+
+const INPUTS_OF_TWO_EVENTS_REPORT: &str = "report 1 mapping cob ticks 2 nodes 1
+state 0 node 0 trace 000 outcome running inputs 0.0=1 0.1=1
+state 1 node 0 trace 010 outcome running inputs 0.0=1
+state 2 node 0 trace 101 outcome running inputs 0.1=1
+state 3 node 0 trace 111 outcome running inputs -
+dstate 0 columns 0
+dstate 1 columns 1
+dstate 2 columns 2
+dstate 3 columns 3
+end states 4 dstates 4 reached 0 open 0
+";
+
+#[test]
+fn inputs_of_two_events(rt: HostRuntime) -> Result<(), Fail> {
+    let ran = call_on(rt.alloc(), INPUTS_OF_TWO_EVENTS.as_bytes())?;
+    assert_eq!(rt; ran.status, Status::Clean);
+    assert_eq!(rt; ran.text.as_slice(), INPUTS_OF_TWO_EVENTS_REPORT.as_bytes());
+    Ok(())
+}
+
 /// Node 1 decides on the input at tick 1; node 0 sends again at tick 2 where it is not 0. This guard ends the
 /// scenario in which node 1 found it 0, although the packet does not arrive any more.
 /// - twice: `boot: input r0, 1`, `send 0, r0, 1`, `timer 0, 2`, `ret`, `timer0: brz r0, a`, `send 0, r0, 1`,
@@ -766,9 +907,10 @@ fn what_a_node_sees(rt: HostRuntime) -> Result<(), Fail> {
     Ok(())
 }
 
-/// At tick 2 the word of node 0 comes before two of node 1, which come in the order of their sending; the first one
-/// sent comes at tick 3.
-/// - late: `boot: timer 0, 1`, `ret`, `timer0: const r0, 1`, `send 0, r0, 1`, `ret`
+/// At tick 2 the fourth packet of node 0 comes before the second and third of node 1; the first of node 1 comes at
+/// tick 3. Node 1 has no handler for the three packets that it gets.
+/// - late: `boot: send 1, r0, 0`, `send 1, r0, 0`, `send 1, r0, 0`, `timer 0, 1`, `ret`, `timer0: const r0, 1`,
+/// `send 0, r0, 1`, `ret`
 /// - three: `boot: const r0, 1`, `send 0, r0, 1`, `send 1, r1, 1`, `timer 0, 1`, `ret`, `timer0: send 2, r0, 1`,
 /// `ret`
 /// - decides: `recv: recvw r0, 0`, `brz r0, a`, `a: ret`
@@ -776,7 +918,7 @@ const ORDER_OF_PACKETS: &str = "version = 1
 ticks = 4
 [[program]]
 name = \"late\"
-code = \"00050000ffff0002ffffffffffffffffffffffffffff0b00000000010000230000000000000001000000000100000d010000000000002300000000000000\"
+code = \"00080000ffff0005ffffffffffffffffffffffffffff0d000000000100000d000000000100000d000000000100000b00000000010000230000000000000001000000000100000d010000000000002300000000000000\"
 [[program]]
 name = \"three\"
 code = \"00070000ffff0005ffffffffffffffffffffffffffff01000000000100000d010000000000000d010100000100000b0000000001000023000000000000000d010000000200002300000000000000\"
@@ -792,6 +934,10 @@ program = \"decides\"
 [[link]]
 from = 0
 to = 2
+delay = 1
+[[link]]
+from = 0
+to = 1
 delay = 1
 [[link]]
 from = 1
