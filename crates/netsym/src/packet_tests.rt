@@ -1,0 +1,1289 @@
+//! The top call on networks with ticks, timers, links and packets.
+
+use crate::status::Status;
+use crate::top::run_alone;
+use kn_io::{MemSink, MemSource};
+use std::alloc::Global;
+use std::test::Fail;
+
+const COMMAND: [&str; 3] = ["explore", "--mapping", "cob"];
+
+/// The status of a call, and what it wrote.
+#[derive(Debug, Drop)]
+struct Ran {
+    status: Status,
+    text: Vec<u8>,
+}
+
+/// Calls the program on a file; no read and no write fails.
+fn call_on(alloc: Global, file: &[u8]) -> Result<Ran, Fail> {
+    let mut source = MemSource::new(file.to_vec(alloc)?, Vec::new(alloc));
+    let mut sink = MemSink::new(vec![in alloc; 0u8; 4096]?, Vec::new(alloc));
+    let status = run_alone(alloc, &COMMAND, &mut source, &mut sink);
+    Ok(Ran {
+        status,
+        text: sink.bytes().to_vec(alloc)?,
+    })
+}
+
+/// A node that sends its input where it is not 0, and two that do nothing on a packet.
+/// - ifsend: `boot: input r0, 1`, `brz r0, a`, `send 0, r0, 1`, `a: ret`
+/// - idle: `recv: ret`
+const ONE_PACKET_OR_NONE: &str = "version = 1
+ticks = 2
+[[program]]
+name = \"ifsend\"
+code = \"00040000ffffffffffffffffffffffffffffffffffff0a0000000001000009000000000300000d010000000000002300000000000000\"
+[[program]]
+name = \"idle\"
+code = \"0001ffff0000ffffffffffffffffffffffffffffffff2300000000000000\"
+[[node]]
+program = \"ifsend\"
+[[node]]
+program = \"idle\"
+[[node]]
+program = \"idle\"
+[[link]]
+from = 0
+to = 1
+delay = 1
+";
+
+const ONE_PACKET_OR_NONE_REPORT: &str = "report 1 mapping cob ticks 2 nodes 3
+state 0 node 0 trace 0 outcome running inputs 0.0=1
+state 1 node 1 trace - outcome running inputs 0.0=1
+state 2 node 2 trace - outcome running inputs -
+state 3 node 0 trace 1 outcome running inputs -
+state 4 node 1 trace - outcome running inputs -
+state 5 node 2 trace - outcome running inputs -
+dstate 0 columns 0 1 2
+dstate 1 columns 3 4 5
+end states 6 dstates 2 reached 0 open 0
+";
+
+/// With one tick the packet never arrives; its guard stands all the same.
+const ONE_PACKET_OR_NONE_NEVER_ARRIVES: &str = "report 1 mapping cob ticks 1 nodes 3
+state 0 node 0 trace 0 outcome running inputs 0.0=1
+state 1 node 1 trace - outcome running inputs 0.0=1
+state 2 node 2 trace - outcome running inputs -
+state 3 node 0 trace 1 outcome running inputs -
+state 4 node 1 trace - outcome running inputs -
+state 5 node 2 trace - outcome running inputs -
+dstate 0 columns 0 1 2
+dstate 1 columns 3 4 5
+end states 6 dstates 2 reached 0 open 0
+";
+
+#[test]
+fn one_packet_or_none(rt: HostRuntime) -> Result<(), Fail> {
+    let ran = call_on(rt.alloc(), ONE_PACKET_OR_NONE.as_bytes())?;
+    assert_eq!(rt; ran.status, Status::Clean);
+    assert_eq!(rt; ran.text.as_slice(), ONE_PACKET_OR_NONE_REPORT.as_bytes());
+    let file = ONE_PACKET_OR_NONE.replace(rt.alloc(), "ticks = 2", "ticks = 1")?;
+    let ran = call_on(rt.alloc(), file.as_bytes())?;
+    assert_eq!(rt; ran.status, Status::Clean);
+    assert_eq!(rt;
+        ran.text.as_slice(),
+        ONE_PACKET_OR_NONE_NEVER_ARRIVES.as_bytes()
+    );
+    Ok(())
+}
+
+/// A packet and a timer of one tick: the timer's assertion holds on the word that the packet's event left.
+/// - ping: `boot: send 0, r0, 0`, `ret`
+/// - late: `boot: timer 0, 1`, `ret`, `recv: const r0, 1`, `ret`, `timer0: assert r0`, `ret`
+const PACKET_BEFORE_TIMER: &str = "version = 1
+ticks = 2
+[[program]]
+name = \"ping\"
+code = \"00020000ffffffffffffffffffffffffffffffffffff0d000000000000002300000000000000\"
+[[program]]
+name = \"late\"
+code = \"0006000000020004ffffffffffffffffffffffffffff0b0000000001000023000000000000000100000000010000230000000000000020000000000000002300000000000000\"
+[[node]]
+program = \"ping\"
+[[node]]
+program = \"late\"
+[[link]]
+from = 0
+to = 1
+delay = 1
+";
+
+const PACKET_BEFORE_TIMER_REPORT: &str = "report 1 mapping cob ticks 2 nodes 2
+state 0 node 0 trace - outcome running inputs -
+state 1 node 1 trace 0 outcome running inputs -
+dstate 0 columns 0 1
+end states 2 dstates 1 reached 0 open 0
+";
+
+#[test]
+fn packet_before_timer(rt: HostRuntime) -> Result<(), Fail> {
+    let ran = call_on(rt.alloc(), PACKET_BEFORE_TIMER.as_bytes())?;
+    assert_eq!(rt; ran.status, Status::Clean);
+    assert_eq!(rt; ran.text.as_slice(), PACKET_BEFORE_TIMER_REPORT.as_bytes());
+    Ok(())
+}
+
+/// What a node decides after a send is not in the packet's guard.
+/// - early: `boot: input r0, 1`, `send 0, r0, 1`, `brz r0, a`, `a: ret`
+/// - idle: `recv: ret`
+const DECIDED_AFTER_SENDING: &str = "version = 1
+ticks = 2
+[[program]]
+name = \"early\"
+code = \"00040000ffffffffffffffffffffffffffffffffffff0a000000000100000d0100000000000009000000000300002300000000000000\"
+[[program]]
+name = \"idle\"
+code = \"0001ffff0000ffffffffffffffffffffffffffffffff2300000000000000\"
+[[node]]
+program = \"early\"
+[[node]]
+program = \"idle\"
+[[link]]
+from = 0
+to = 1
+delay = 1
+";
+
+const DECIDED_AFTER_SENDING_REPORT: &str = "report 1 mapping cob ticks 2 nodes 2
+state 0 node 0 trace 0 outcome running inputs 0.0=1
+state 1 node 1 trace - outcome running inputs -
+state 2 node 0 trace 1 outcome running inputs -
+state 3 node 1 trace - outcome running inputs -
+dstate 0 columns 0 1
+dstate 1 columns 2 3
+end states 4 dstates 2 reached 0 open 0
+";
+
+#[test]
+fn decided_after_sending(rt: HostRuntime) -> Result<(), Fail> {
+    let ran = call_on(rt.alloc(), DECIDED_AFTER_SENDING.as_bytes())?;
+    assert_eq!(rt; ran.status, Status::Clean);
+    assert_eq!(rt;
+        ran.text.as_slice(),
+        DECIDED_AFTER_SENDING_REPORT.as_bytes()
+    );
+    Ok(())
+}
+
+/// Both ways send the word 7, each with its own guard.
+/// - both: `boot: input r0, 1`, `brz r0, a`, `a: const r1, 7`, `send 0, r1, 1`, `ret`
+/// - idle: `recv: ret`
+const EQUAL_WORDS_FROM_TWO_WAYS: &str = "version = 1
+ticks = 2
+[[program]]
+name = \"both\"
+code = \"00050000ffffffffffffffffffffffffffffffffffff0a00000000010000090000000002000001010000000700000d010100000000002300000000000000\"
+[[program]]
+name = \"idle\"
+code = \"0001ffff0000ffffffffffffffffffffffffffffffff2300000000000000\"
+[[node]]
+program = \"both\"
+[[node]]
+program = \"idle\"
+[[link]]
+from = 0
+to = 1
+delay = 1
+";
+
+const EQUAL_WORDS_FROM_TWO_WAYS_REPORT: &str = "report 1 mapping cob ticks 2 nodes 2
+state 0 node 0 trace 0 outcome running inputs 0.0=1
+state 1 node 1 trace - outcome running inputs 0.0=1
+state 2 node 0 trace 1 outcome running inputs -
+state 3 node 1 trace - outcome running inputs -
+dstate 0 columns 0 1
+dstate 1 columns 2 3
+end states 4 dstates 2 reached 0 open 0
+";
+
+#[test]
+fn equal_words_from_two_ways(rt: HostRuntime) -> Result<(), Fail> {
+    let ran = call_on(rt.alloc(), EQUAL_WORDS_FROM_TWO_WAYS.as_bytes())?;
+    assert_eq!(rt; ran.status, Status::Clean);
+    assert_eq!(rt;
+        ran.text.as_slice(),
+        EQUAL_WORDS_FROM_TWO_WAYS_REPORT.as_bytes()
+    );
+    Ok(())
+}
+
+/// An input sent at tick 1, held for two ticks, sent on over a delay of 2 and passed on, comes to the last node at
+/// tick 7.
+/// - source: `boot: timer 0, 1`, `ret`, `timer0: input r0, 1`, `send 0, r0, 1`, `ret`
+/// - hold: `recv: recvw r0, 0`, `timer 3, 2`, `ret`, `timer3: send 0, r0, 1`, `ret`
+/// - relay: `recv: recvw r0, 0`, `send 0, r0, 1`, `ret`
+/// - sink: `recv: recvw r0, 0`, `brz r0, off`, `ret`, `off: halt`
+const RELAYED_WITH_TIMERS: &str = "version = 1
+ticks = 8
+[[program]]
+name = \"source\"
+code = \"00050000ffff0002ffffffffffffffffffffffffffff0b0000000001000023000000000000000a000000000100000d010000000000002300000000000000\"
+[[program]]
+name = \"hold\"
+code = \"0005ffff0000ffffffffffff0003ffffffffffffffff0f000000000000000b0300000002000023000000000000000d010000000000002300000000000000\"
+[[program]]
+name = \"relay\"
+code = \"0003ffff0000ffffffffffffffffffffffffffffffff0f000000000000000d010000000000002300000000000000\"
+[[program]]
+name = \"sink\"
+code = \"0004ffff0000ffffffffffffffffffffffffffffffff0f00000000000000090000000003000023000000000000002400000000000000\"
+[[node]]
+program = \"sink\"
+[[node]]
+program = \"relay\"
+[[node]]
+program = \"hold\"
+[[node]]
+program = \"source\"
+[[link]]
+from = 3
+to = 2
+delay = 1
+[[link]]
+from = 2
+to = 1
+delay = 2
+[[link]]
+from = 1
+to = 0
+delay = 1
+";
+
+const RELAYED_WITH_TIMERS_REPORT: &str = "report 1 mapping cob ticks 8 nodes 4
+state 0 node 0 trace 0 outcome running inputs 3.0=1
+state 1 node 1 trace - outcome running inputs -
+state 2 node 2 trace - outcome running inputs -
+state 3 node 3 trace - outcome running inputs -
+state 4 node 0 trace 1 outcome halted inputs -
+state 5 node 1 trace - outcome running inputs -
+state 6 node 2 trace - outcome running inputs -
+state 7 node 3 trace - outcome running inputs -
+dstate 0 columns 0 1 2 3
+dstate 1 columns 4 5 6 7
+end states 8 dstates 2 reached 0 open 0
+";
+
+/// With seven ticks the last node has decided nothing.
+const RELAYED_WITH_TIMERS_A_TICK_BEFORE: &str = "report 1 mapping cob ticks 7 nodes 4
+state 0 node 0 trace - outcome running inputs -
+state 1 node 1 trace - outcome running inputs -
+state 2 node 2 trace - outcome running inputs -
+state 3 node 3 trace - outcome running inputs -
+dstate 0 columns 0 1 2 3
+end states 4 dstates 1 reached 0 open 0
+";
+
+#[test]
+fn relayed_with_timers(rt: HostRuntime) -> Result<(), Fail> {
+    let ran = call_on(rt.alloc(), RELAYED_WITH_TIMERS.as_bytes())?;
+    assert_eq!(rt; ran.status, Status::Clean);
+    assert_eq!(rt; ran.text.as_slice(), RELAYED_WITH_TIMERS_REPORT.as_bytes());
+    let file = RELAYED_WITH_TIMERS.replace(rt.alloc(), "ticks = 8", "ticks = 7")?;
+    let ran = call_on(rt.alloc(), file.as_bytes())?;
+    assert_eq!(rt; ran.status, Status::Clean);
+    assert_eq!(rt;
+        ran.text.as_slice(),
+        RELAYED_WITH_TIMERS_A_TICK_BEFORE.as_bytes()
+    );
+    Ok(())
+}
+
+/// Links are numbered node by node in the file's order: link 1 of node 0 leads to node 1. A broadcast goes over all
+/// three and before the send that follows it; a link that the node does not have sends nothing.
+/// - caller: `boot: input r0, 1`, `bcast r0, 1`, `const r1, 1`, `send 1, r1, 1`, `send 3, r1, 1`, `ret`
+/// - decides: `recv: recvw r0, 0`, `brz r0, a`, `a: ret`
+/// - asserts: `recv: recvw r0, 0`, `assert r0`, `ret`
+/// - idle: `recv: ret`
+const BROADCAST_AND_LINK_NUMBERS: &str = "version = 1
+ticks = 3
+[[program]]
+name = \"caller\"
+code = \"00060000ffffffffffffffffffffffffffffffffffff0a000000000100000e0100000000000001010000000100000d010100000100000d010100000300002300000000000000\"
+[[program]]
+name = \"decides\"
+code = \"0003ffff0000ffffffffffffffffffffffffffffffff0f0000000000000009000000000200002300000000000000\"
+[[program]]
+name = \"asserts\"
+code = \"0003ffff0000ffffffffffffffffffffffffffffffff0f0000000000000020000000000000002300000000000000\"
+[[program]]
+name = \"idle\"
+code = \"0001ffff0000ffffffffffffffffffffffffffffffff2300000000000000\"
+[[node]]
+program = \"caller\"
+[[node]]
+program = \"decides\"
+[[node]]
+program = \"asserts\"
+[[node]]
+program = \"idle\"
+[[link]]
+from = 0
+to = 3
+delay = 1
+[[link]]
+from = 1
+to = 0
+delay = 1
+[[link]]
+from = 0
+to = 1
+delay = 2
+[[link]]
+from = 0
+to = 2
+delay = 1
+";
+
+const BROADCAST_AND_LINK_NUMBERS_REPORT: &str = "report 1 mapping cob ticks 3 nodes 4
+state 0 node 0 trace - outcome running inputs -
+state 1 node 1 trace 00 outcome running inputs 0.0=1
+state 2 node 2 trace 0 outcome running inputs 0.0=1
+state 3 node 3 trace - outcome running inputs -
+state 4 node 0 trace - outcome running inputs -
+state 5 node 1 trace 00 outcome running inputs 0.0=1
+state 6 node 2 trace 1 outcome assert@1@1 inputs -
+state 7 node 3 trace - outcome running inputs -
+state 8 node 0 trace - outcome running inputs -
+state 9 node 1 trace 10 outcome running inputs -
+state 10 node 2 trace 0 outcome running inputs 0.0=1
+state 11 node 3 trace - outcome running inputs -
+state 12 node 0 trace - outcome running inputs -
+state 13 node 1 trace 10 outcome running inputs -
+state 14 node 2 trace 1 outcome assert@1@1 inputs -
+state 15 node 3 trace - outcome running inputs -
+dstate 0 columns 0 1 2 3
+dstate 1 columns 4 5 6 7
+dstate 2 columns 8 9 10 11
+dstate 3 columns 12 13 14 15
+failure 6 nowhere
+failure 14 reached dstate 3 pick 12 13 14 15 inputs -
+end states 16 dstates 4 reached 1 open 0
+";
+
+#[test]
+fn broadcast_and_link_numbers(rt: HostRuntime) -> Result<(), Fail> {
+    let ran = call_on(rt.alloc(), BROADCAST_AND_LINK_NUMBERS.as_bytes())?;
+    assert_eq!(rt; ran.status, Status::Found);
+    assert_eq!(rt;
+        ran.text.as_slice(),
+        BROADCAST_AND_LINK_NUMBERS_REPORT.as_bytes()
+    );
+    Ok(())
+}
+
+/// A node that sends and then jumps to itself where its input is 0, and one that jumps to itself on a packet. What
+/// was sent before the failure stays sent.
+/// - sender: `boot: input r0, 1`, `send 0, r0, 1`, `brz r0, spin`, `ret`, `spin: jmp spin`
+/// - spins: `recv: jmp again`, `again: jmp again`
+const SPINNING_WITHOUT_END: &str = "version = 1
+ticks = 2
+[[program]]
+name = \"sender\"
+code = \"00050000ffffffffffffffffffffffffffffffffffff0a000000000100000d01000000000000090000000004000023000000000000000800000000040000\"
+[[program]]
+name = \"spins\"
+code = \"0002ffff0000ffffffffffffffffffffffffffffffff08000000000100000800000000010000\"
+[[node]]
+program = \"sender\"
+[[node]]
+program = \"spins\"
+[[link]]
+from = 0
+to = 1
+delay = 1
+";
+
+const SPINNING_WITHOUT_END_REPORT: &str = "report 1 mapping cob ticks 2 nodes 2
+state 0 node 0 trace 0 outcome running inputs 0.0=1
+state 1 node 1 trace - outcome fuel@1@1 inputs -
+state 2 node 0 trace 1 outcome fuel@4@0 inputs -
+state 3 node 1 trace - outcome fuel@1@1 inputs -
+dstate 0 columns 0 1
+dstate 1 columns 2 3
+failure 1 reached dstate 0 pick 0 1 inputs 0.0=1
+failure 2 reached dstate 1 pick 2 3 inputs -
+failure 3 reached dstate 1 pick 2 3 inputs -
+end states 4 dstates 2 reached 3 open 0
+";
+
+#[test]
+fn spinning_without_end(rt: HostRuntime) -> Result<(), Fail> {
+    let ran = call_on(rt.alloc(), SPINNING_WITHOUT_END.as_bytes())?;
+    assert_eq!(rt; ran.status, Status::Found);
+    assert_eq!(rt; ran.text.as_slice(), SPINNING_WITHOUT_END_REPORT.as_bytes());
+    Ok(())
+}
+
+/// Five instructions a turn: 102 turns are 510 instructions, and the third of the next turn is not executed.
+/// - turns: `boot: node r1`, `now r2`, `rlen r3`, `rfrom r4`, `brz r0, boot`, `ret`
+const FUEL_BY_THE_COUNT_OF_BITS: &str = "version = 1
+ticks = 1
+[[program]]
+name = \"turns\"
+code = \"00060000ffffffffffffffffffffffffffffffffffff210100000000000022020000000000001e030000000000001f0400000000000009000000000000002300000000000000\"
+[[node]]
+program = \"turns\"
+";
+
+const FUEL_BY_THE_COUNT_OF_BITS_REPORT: &str = "report 1 mapping cob ticks 1 nodes 1
+state 0 node 0 trace 111111111111111111111111111111111111111111111111111111111111111111111111111111111111111111111111111111 outcome fuel@2@0 inputs -
+dstate 0 columns 0
+failure 0 reached dstate 0 pick 0 inputs -
+end states 1 dstates 1 reached 1 open 0
+";
+
+#[test]
+fn fuel_by_the_count_of_bits(rt: HostRuntime) -> Result<(), Fail> {
+    let ran = call_on(rt.alloc(), FUEL_BY_THE_COUNT_OF_BITS.as_bytes())?;
+    assert_eq!(rt; ran.status, Status::Found);
+    assert_eq!(rt;
+        ran.text.as_slice(),
+        FUEL_BY_THE_COUNT_OF_BITS_REPORT.as_bytes()
+    );
+    Ok(())
+}
+
+/// An event of 512 instructions: 15 constants, 15 turns of 33 instructions and 2 at the end.
+/// - counted: `boot: const r1, 1` to `const r15, 1`, `turn: brz r1, out`, `mov r1, r2` to `mov r14, r15`,
+/// `mov r15, r0`, 16 times `const r0, 0`, `jmp turn`, `mov r0, r0`, `out: ret`
+const EXACTLY_THE_FUEL: &str = "version = 1
+ticks = 1
+[[program]]
+name = \"counted\"
+code = \"00320000ffffffffffffffffffffffffffffffffffff010100000001000001020000000100000103000000010000010400000001000001050000000100000106000000010000010700000001000001080000000100000109000000010000010a000000010000010b000000010000010c000000010000010d000000010000010e000000010000010f00000001000009010000003100000201020000000000020203000000000002030400000000000204050000000000020506000000000002060700000000000207080000000000020809000000000002090a0000000000020a0b0000000000020b0c0000000000020c0d0000000000020d0e0000000000020e0f0000000000020f000000000000010000000000000001000000000000000100000000000000010000000000000001000000000000000100000000000000010000000000000001000000000000000100000000000000010000000000000001000000000000000100000000000000010000000000000001000000000000000100000000000000010000000000000008000000000f000002000000000000002300000000000000\"
+[[node]]
+program = \"counted\"
+";
+
+const EXACTLY_THE_FUEL_REPORT: &str = "report 1 mapping cob ticks 1 nodes 1
+state 0 node 0 trace 0000000000000001 outcome running inputs -
+dstate 0 columns 0
+end states 1 dstates 1 reached 0 open 0
+";
+
+/// With one instruction more before `ret`.
+const EXACTLY_THE_FUEL_ONE_TOO_MANY: &str = "report 1 mapping cob ticks 1 nodes 1
+state 0 node 0 trace 0000000000000001 outcome fuel@49@0 inputs -
+dstate 0 columns 0
+failure 0 reached dstate 0 pick 0 inputs -
+end states 1 dstates 1 reached 1 open 0
+";
+
+#[test]
+fn exactly_the_fuel(rt: HostRuntime) -> Result<(), Fail> {
+    let ran = call_on(rt.alloc(), EXACTLY_THE_FUEL.as_bytes())?;
+    assert_eq!(rt; ran.status, Status::Clean);
+    assert_eq!(rt; ran.text.as_slice(), EXACTLY_THE_FUEL_REPORT.as_bytes());
+    let file = EXACTLY_THE_FUEL.replace(rt.alloc(), "0901000000310000", "0901000000300000")?;
+    let ran = call_on(rt.alloc(), file.as_bytes())?;
+    assert_eq!(rt; ran.status, Status::Found);
+    assert_eq!(rt;
+        ran.text.as_slice(),
+        EXACTLY_THE_FUEL_ONE_TOO_MANY.as_bytes()
+    );
+    Ok(())
+}
+
+/// The sender's branch and the receiver's assertion are on one input, and the packet's guard is empty: each node
+/// alone is possible, and two of the four scenarios are not.
+/// - tell: `boot: input r0, 1`, `send 0, r0, 1`, `brz r0, a`, `a: ret`
+/// - asserts: `recv: recvw r0, 0`, `assert r0`, `ret`
+const FAILURE_IN_NO_RUN: &str = "version = 1
+ticks = 2
+[[program]]
+name = \"tell\"
+code = \"00040000ffffffffffffffffffffffffffffffffffff0a000000000100000d0100000000000009000000000300002300000000000000\"
+[[program]]
+name = \"asserts\"
+code = \"0003ffff0000ffffffffffffffffffffffffffffffff0f0000000000000020000000000000002300000000000000\"
+[[node]]
+program = \"tell\"
+[[node]]
+program = \"asserts\"
+[[link]]
+from = 0
+to = 1
+delay = 1
+";
+
+const FAILURE_IN_NO_RUN_REPORT: &str = "report 1 mapping cob ticks 2 nodes 2
+state 0 node 0 trace 0 outcome running inputs 0.0=1
+state 1 node 1 trace 0 outcome running inputs 0.0=1
+state 2 node 0 trace 0 outcome running inputs 0.0=1
+state 3 node 1 trace 1 outcome assert@1@1 inputs -
+state 4 node 0 trace 1 outcome running inputs -
+state 5 node 1 trace 0 outcome running inputs 0.0=1
+state 6 node 0 trace 1 outcome running inputs -
+state 7 node 1 trace 1 outcome assert@1@1 inputs -
+dstate 0 columns 0 1
+dstate 1 columns 2 3
+dstate 2 columns 4 5
+dstate 3 columns 6 7
+failure 3 nowhere
+failure 7 reached dstate 3 pick 6 7 inputs -
+end states 8 dstates 4 reached 1 open 0
+";
+
+#[test]
+fn failure_in_no_run(rt: HostRuntime) -> Result<(), Fail> {
+    let ran = call_on(rt.alloc(), FAILURE_IN_NO_RUN.as_bytes())?;
+    assert_eq!(rt; ran.status, Status::Found);
+    assert_eq!(rt; ran.text.as_slice(), FAILURE_IN_NO_RUN_REPORT.as_bytes());
+    Ok(())
+}
+
+/// The packet is sent only where its word is not 0, so the assertion on it cannot fail.
+/// - ifsend: `boot: input r0, 1`, `brz r0, a`, `send 0, r0, 1`, `a: ret`
+/// - asserts: `recv: recvw r0, 0`, `assert r0`, `ret`
+const GUARD_RULES_A_FAILURE_OUT: &str = "version = 1
+ticks = 2
+[[program]]
+name = \"ifsend\"
+code = \"00040000ffffffffffffffffffffffffffffffffffff0a0000000001000009000000000300000d010000000000002300000000000000\"
+[[program]]
+name = \"asserts\"
+code = \"0003ffff0000ffffffffffffffffffffffffffffffff0f0000000000000020000000000000002300000000000000\"
+[[node]]
+program = \"ifsend\"
+[[node]]
+program = \"asserts\"
+[[link]]
+from = 0
+to = 1
+delay = 1
+";
+
+const GUARD_RULES_A_FAILURE_OUT_REPORT: &str = "report 1 mapping cob ticks 2 nodes 2
+state 0 node 0 trace 0 outcome running inputs 0.0=1
+state 1 node 1 trace 0 outcome running inputs 0.0=1
+state 2 node 0 trace 1 outcome running inputs -
+state 3 node 1 trace - outcome running inputs -
+dstate 0 columns 0 1
+dstate 1 columns 2 3
+end states 4 dstates 2 reached 0 open 0
+";
+
+#[test]
+fn guard_rules_a_failure_out(rt: HostRuntime) -> Result<(), Fail> {
+    let ran = call_on(rt.alloc(), GUARD_RULES_A_FAILURE_OUT.as_bytes())?;
+    assert_eq!(rt; ran.status, Status::Clean);
+    assert_eq!(rt;
+        ran.text.as_slice(),
+        GUARD_RULES_A_FAILURE_OUT_REPORT.as_bytes()
+    );
+    Ok(())
+}
+
+/// A relay that decides nothing sends on under the guard that it was sent.
+/// - ifsend: `boot: input r0, 1`, `brz r0, a`, `send 0, r0, 1`, `a: ret`
+/// - relay: `recv: recvw r0, 0`, `send 0, r0, 1`, `ret`
+/// - asserts: `recv: recvw r0, 0`, `assert r0`, `ret`
+const GUARD_GOES_ON_OVER_A_RELAY: &str = "version = 1
+ticks = 3
+[[program]]
+name = \"ifsend\"
+code = \"00040000ffffffffffffffffffffffffffffffffffff0a0000000001000009000000000300000d010000000000002300000000000000\"
+[[program]]
+name = \"relay\"
+code = \"0003ffff0000ffffffffffffffffffffffffffffffff0f000000000000000d010000000000002300000000000000\"
+[[program]]
+name = \"asserts\"
+code = \"0003ffff0000ffffffffffffffffffffffffffffffff0f0000000000000020000000000000002300000000000000\"
+[[node]]
+program = \"ifsend\"
+[[node]]
+program = \"relay\"
+[[node]]
+program = \"asserts\"
+[[link]]
+from = 0
+to = 1
+delay = 1
+[[link]]
+from = 1
+to = 2
+delay = 1
+";
+
+const GUARD_GOES_ON_OVER_A_RELAY_REPORT: &str = "report 1 mapping cob ticks 3 nodes 3
+state 0 node 0 trace 0 outcome running inputs 0.0=1
+state 1 node 1 trace - outcome running inputs 0.0=1
+state 2 node 2 trace 0 outcome running inputs 0.0=1
+state 3 node 0 trace 1 outcome running inputs -
+state 4 node 1 trace - outcome running inputs -
+state 5 node 2 trace - outcome running inputs -
+dstate 0 columns 0 1 2
+dstate 1 columns 3 4 5
+end states 6 dstates 2 reached 0 open 0
+";
+
+#[test]
+fn guard_goes_on_over_a_relay(rt: HostRuntime) -> Result<(), Fail> {
+    let ran = call_on(rt.alloc(), GUARD_GOES_ON_OVER_A_RELAY.as_bytes())?;
+    assert_eq!(rt; ran.status, Status::Clean);
+    assert_eq!(rt;
+        ran.text.as_slice(),
+        GUARD_GOES_ON_OVER_A_RELAY_REPORT.as_bytes()
+    );
+    Ok(())
+}
+
+/// Node 1 is sent to and sends in one tick: what it sends does not have the guard of what it was sent. Node 2 has
+/// no link for its broadcast.
+/// - ifsend: `boot: input r0, 1`, `brz r0, a`, `send 0, r0, 1`, `a: ret`
+/// - sends: `boot: send 0, r0, 0`, `ret`
+/// - calls: `boot: bcast r0, 1`, `ret`
+const GUARDS_JOIN_AT_THE_END_OF_THE_TICK: &str = "version = 1
+ticks = 2
+[[program]]
+name = \"ifsend\"
+code = \"00040000ffffffffffffffffffffffffffffffffffff0a0000000001000009000000000300000d010000000000002300000000000000\"
+[[program]]
+name = \"sends\"
+code = \"00020000ffffffffffffffffffffffffffffffffffff0d000000000000002300000000000000\"
+[[program]]
+name = \"calls\"
+code = \"00020000ffffffffffffffffffffffffffffffffffff0e010000000000002300000000000000\"
+[[node]]
+program = \"ifsend\"
+[[node]]
+program = \"sends\"
+[[node]]
+program = \"calls\"
+[[link]]
+from = 0
+to = 1
+delay = 1
+[[link]]
+from = 1
+to = 2
+delay = 1
+";
+
+const GUARDS_JOIN_AT_THE_END_OF_THE_TICK_REPORT: &str = "report 1 mapping cob ticks 2 nodes 3
+state 0 node 0 trace 0 outcome running inputs 0.0=1
+state 1 node 1 trace - outcome running inputs 0.0=1
+state 2 node 2 trace - outcome running inputs -
+state 3 node 0 trace 1 outcome running inputs -
+state 4 node 1 trace - outcome running inputs -
+state 5 node 2 trace - outcome running inputs -
+dstate 0 columns 0 1 2
+dstate 1 columns 3 4 5
+end states 6 dstates 2 reached 0 open 0
+";
+
+#[test]
+fn guards_join_at_the_end_of_the_tick(rt: HostRuntime) -> Result<(), Fail> {
+    let ran = call_on(rt.alloc(), GUARDS_JOIN_AT_THE_END_OF_THE_TICK.as_bytes())?;
+    assert_eq!(rt; ran.status, Status::Clean);
+    assert_eq!(rt;
+        ran.text.as_slice(),
+        GUARDS_JOIN_AT_THE_END_OF_THE_TICK_REPORT.as_bytes()
+    );
+    Ok(())
+}
+
+/// An input of the boot event and one of a timer's; the third decision is on the first input again.
+/// - reads: `boot: input r0, 1`, `mov r1, r0`, `timer 0, 1`, `ret`, `timer0: input r0, 1`, `brz r1, a`,
+/// `a: brz r0, b`, `b: brz r1, c`, `c: ret`
+const INPUTS_OF_TWO_EVENTS: &str = "version = 1
+ticks = 2
+[[program]]
+name = \"reads\"
+code = \"00090000ffff0004ffffffffffffffffffffffffffff0a0000000001000002010000000000000b0000000001000023000000000000000a000000000100000901000000060000090000000007000009010000000800002300000000000000\"
+[[node]]
+program = \"reads\"
+";
+
+const INPUTS_OF_TWO_EVENTS_REPORT: &str = "report 1 mapping cob ticks 2 nodes 1
+state 0 node 0 trace 000 outcome running inputs 0.0=1 0.1=1
+state 1 node 0 trace 010 outcome running inputs 0.0=1
+state 2 node 0 trace 101 outcome running inputs 0.1=1
+state 3 node 0 trace 111 outcome running inputs -
+dstate 0 columns 0
+dstate 1 columns 1
+dstate 2 columns 2
+dstate 3 columns 3
+end states 4 dstates 4 reached 0 open 0
+";
+
+#[test]
+fn inputs_of_two_events(rt: HostRuntime) -> Result<(), Fail> {
+    let ran = call_on(rt.alloc(), INPUTS_OF_TWO_EVENTS.as_bytes())?;
+    assert_eq!(rt; ran.status, Status::Clean);
+    assert_eq!(rt; ran.text.as_slice(), INPUTS_OF_TWO_EVENTS_REPORT.as_bytes());
+    Ok(())
+}
+
+/// Node 1 decides on the input at tick 1; node 0 sends again at tick 2 where it is not 0. This guard ends the
+/// scenario in which node 1 found it 0, although the packet does not arrive any more.
+/// - twice: `boot: input r0, 1`, `send 0, r0, 1`, `timer 0, 2`, `ret`, `timer0: brz r0, a`, `send 0, r0, 1`,
+/// `a: ret`
+/// - decides: `recv: recvw r0, 0`, `brz r0, a`, `a: ret`
+const GUARD_AGAINST_AN_EARLIER_DECISION: &str = "version = 1
+ticks = 3
+[[program]]
+name = \"twice\"
+code = \"00070000ffff0004ffffffffffffffffffffffffffff0a000000000100000d010000000000000b00000000020000230000000000000009000000000600000d010000000000002300000000000000\"
+[[program]]
+name = \"decides\"
+code = \"0003ffff0000ffffffffffffffffffffffffffffffff0f0000000000000009000000000200002300000000000000\"
+[[node]]
+program = \"twice\"
+[[node]]
+program = \"decides\"
+[[link]]
+from = 0
+to = 1
+delay = 1
+";
+
+const GUARD_AGAINST_AN_EARLIER_DECISION_REPORT: &str = "report 1 mapping cob ticks 3 nodes 2
+state 0 node 0 trace 0 outcome running inputs 0.0=1
+state 1 node 1 trace 0 outcome running inputs 0.0=1
+state 2 node 0 trace 1 outcome running inputs -
+state 3 node 1 trace 0 outcome running inputs 0.0=1
+state 4 node 0 trace 1 outcome running inputs -
+state 5 node 1 trace 1 outcome running inputs -
+dstate 0 columns 0 1
+dstate 1 columns 2 3
+dstate 2 columns 4 5
+end states 6 dstates 3 reached 0 open 0
+";
+
+/// With a fourth tick the packet arrives.
+const GUARD_AGAINST_AN_EARLIER_DECISION_ARRIVES_TOO: &str = "report 1 mapping cob ticks 4 nodes 2
+state 0 node 0 trace 0 outcome running inputs 0.0=1
+state 1 node 1 trace 00 outcome running inputs 0.0=1
+state 2 node 0 trace 1 outcome running inputs -
+state 3 node 1 trace 0 outcome running inputs 0.0=1
+state 4 node 0 trace 1 outcome running inputs -
+state 5 node 1 trace 1 outcome running inputs -
+dstate 0 columns 0 1
+dstate 1 columns 2 3
+dstate 2 columns 4 5
+end states 6 dstates 3 reached 0 open 0
+";
+
+#[test]
+fn guard_against_an_earlier_decision(rt: HostRuntime) -> Result<(), Fail> {
+    let ran = call_on(rt.alloc(), GUARD_AGAINST_AN_EARLIER_DECISION.as_bytes())?;
+    assert_eq!(rt; ran.status, Status::Clean);
+    assert_eq!(rt;
+        ran.text.as_slice(),
+        GUARD_AGAINST_AN_EARLIER_DECISION_REPORT.as_bytes()
+    );
+    let file = GUARD_AGAINST_AN_EARLIER_DECISION.replace(rt.alloc(), "ticks = 3", "ticks = 4")?;
+    let ran = call_on(rt.alloc(), file.as_bytes())?;
+    assert_eq!(rt; ran.status, Status::Clean);
+    assert_eq!(rt;
+        ran.text.as_slice(),
+        GUARD_AGAINST_AN_EARLIER_DECISION_ARRIVES_TOO.as_bytes()
+    );
+    Ok(())
+}
+
+/// A node that halted and one that failed get the guards of what is sent to them.
+/// - caller: `boot: input r0, 1`, `brz r0, a`, `bcast r0, 1`, `a: ret`
+/// - halts: `boot: halt`, `recv: assert r0`, `ret`
+/// - fails: `boot: assert r0`, `recv: halt`
+const ENDED_NODES_ARE_STILL_SENT_TO: &str = "version = 1
+ticks = 2
+[[program]]
+name = \"caller\"
+code = \"00040000ffffffffffffffffffffffffffffffffffff0a0000000001000009000000000300000e010000000000002300000000000000\"
+[[program]]
+name = \"halts\"
+code = \"000300000001ffffffffffffffffffffffffffffffff240000000000000020000000000000002300000000000000\"
+[[program]]
+name = \"fails\"
+code = \"000200000001ffffffffffffffffffffffffffffffff20000000000000002400000000000000\"
+[[node]]
+program = \"caller\"
+[[node]]
+program = \"halts\"
+[[node]]
+program = \"fails\"
+[[link]]
+from = 0
+to = 1
+delay = 1
+[[link]]
+from = 0
+to = 2
+delay = 1
+";
+
+const ENDED_NODES_ARE_STILL_SENT_TO_REPORT: &str = "report 1 mapping cob ticks 2 nodes 3
+state 0 node 0 trace 0 outcome running inputs 0.0=1
+state 1 node 1 trace - outcome halted inputs 0.0=1
+state 2 node 2 trace 1 outcome assert@0@0 inputs 0.0=1
+state 3 node 0 trace 1 outcome running inputs -
+state 4 node 1 trace - outcome halted inputs -
+state 5 node 2 trace 1 outcome assert@0@0 inputs -
+dstate 0 columns 0 1 2
+dstate 1 columns 3 4 5
+failure 2 reached dstate 0 pick 0 1 2 inputs 0.0=1
+failure 5 reached dstate 1 pick 3 4 5 inputs -
+end states 6 dstates 2 reached 2 open 0
+";
+
+#[test]
+fn ended_nodes_are_still_sent_to(rt: HostRuntime) -> Result<(), Fail> {
+    let ran = call_on(rt.alloc(), ENDED_NODES_ARE_STILL_SENT_TO.as_bytes())?;
+    assert_eq!(rt; ran.status, Status::Found);
+    assert_eq!(rt;
+        ran.text.as_slice(),
+        ENDED_NODES_ARE_STILL_SENT_TO_REPORT.as_bytes()
+    );
+    Ok(())
+}
+
+/// Timer 0 comes before timer 1 of its tick, timer 2 was cancelled, timer 3 was set anew to tick 3, timer 4 comes
+/// at tick 2.
+/// - timers: `boot: timer 1, 1`, `timer 0, 1`, `timer 2, 1`, `cancel 2`, `timer 3, 1`, `timer 3, 3`, `timer 4, 2`,
+/// `ret`, `timer0: const r0, 1`, `ret`, `timer1: brz r0, a`, `a: const r0, 0`, `ret`, `timer2: halt`,
+/// `timer3: brz r0, b`, `b: halt`, `timer4: brz r0, c`, `c: ret`
+const TIMERS_SET_REPLACED_AND_CANCELLED: &str = "version = 1
+ticks = 4
+[[program]]
+name = \"timers\"
+code = \"00120000ffff0008000a000d000e0010ffffffffffff0b010000000100000b000000000100000b020000000100000c020000000000000b030000000100000b030000000300000b0400000002000023000000000000000100000000010000230000000000000009000000000b000001000000000000002300000000000000240000000000000009000000000f0000240000000000000009000000001100002300000000000000\"
+[[node]]
+program = \"timers\"
+";
+
+const TIMERS_SET_REPLACED_AND_CANCELLED_REPORT: &str = "report 1 mapping cob ticks 4 nodes 1
+state 0 node 0 trace 011 outcome halted inputs -
+dstate 0 columns 0
+end states 1 dstates 1 reached 0 open 0
+";
+
+#[test]
+fn timers_set_replaced_and_cancelled(rt: HostRuntime) -> Result<(), Fail> {
+    let ran = call_on(rt.alloc(), TIMERS_SET_REPLACED_AND_CANCELLED.as_bytes())?;
+    assert_eq!(rt; ran.status, Status::Clean);
+    assert_eq!(rt;
+        ran.text.as_slice(),
+        TIMERS_SET_REPLACED_AND_CANCELLED_REPORT.as_bytes()
+    );
+    Ok(())
+}
+
+/// Both nodes look at length, sender, words, own number and tick at boot, at a packet of two words and at a timer.
+/// Node 1 has no link.
+/// - looks: `boot: timer 0, 2`, `const r15, 7`, `send 0, r14, 2`, `recv:`, `timer0: rlen r0`, `brz r0, b`,
+/// `b: rfrom r1`, `brz r1, c`, `c: recvw r2, 1`, `brz r2, d`, `d: recvw r3, 2`, `brz r3, e`, `e: node r4`,
+/// `brz r4, f`, `f: now r5`, `brz r5, g`, `g: ret`
+const WHAT_A_NODE_SEES: &str = "version = 1
+ticks = 3
+[[program]]
+name = \"looks\"
+code = \"0010000000030003ffffffffffffffffffffffffffff0b00000000020000010f0000000700000d020e00000000001e0000000000000009000000000500001f0100000000000009010000000700000f0200000001000009020000000900000f0300000002000009030000000b0000210400000000000009040000000d0000220500000000000009050000000f00002300000000000000\"
+[[node]]
+program = \"looks\"
+[[node]]
+program = \"looks\"
+[[link]]
+from = 0
+to = 1
+delay = 1
+";
+
+const WHAT_A_NODE_SEES_REPORT: &str = "report 1 mapping cob ticks 3 nodes 2
+state 0 node 0 trace 101111101110 outcome running inputs -
+state 1 node 1 trace 101101010100101100 outcome running inputs -
+dstate 0 columns 0 1
+end states 2 dstates 1 reached 0 open 0
+";
+
+#[test]
+fn what_a_node_sees(rt: HostRuntime) -> Result<(), Fail> {
+    let ran = call_on(rt.alloc(), WHAT_A_NODE_SEES.as_bytes())?;
+    assert_eq!(rt; ran.status, Status::Clean);
+    assert_eq!(rt; ran.text.as_slice(), WHAT_A_NODE_SEES_REPORT.as_bytes());
+    Ok(())
+}
+
+/// At tick 2 the fourth packet of node 0 comes before the second and third of node 1; the first of node 1 comes at
+/// tick 3. Node 1 has no handler for the three packets that it gets.
+/// - late: `boot: send 1, r0, 0`, `send 1, r0, 0`, `send 1, r0, 0`, `timer 0, 1`, `ret`, `timer0: const r0, 1`,
+/// `send 0, r0, 1`, `ret`
+/// - three: `boot: const r0, 1`, `send 0, r0, 1`, `send 1, r1, 1`, `timer 0, 1`, `ret`, `timer0: send 2, r0, 1`,
+/// `ret`
+/// - decides: `recv: recvw r0, 0`, `brz r0, a`, `a: ret`
+const ORDER_OF_PACKETS: &str = "version = 1
+ticks = 4
+[[program]]
+name = \"late\"
+code = \"00080000ffff0005ffffffffffffffffffffffffffff0d000000000100000d000000000100000d000000000100000b00000000010000230000000000000001000000000100000d010000000000002300000000000000\"
+[[program]]
+name = \"three\"
+code = \"00070000ffff0005ffffffffffffffffffffffffffff01000000000100000d010000000000000d010100000100000b0000000001000023000000000000000d010000000200002300000000000000\"
+[[program]]
+name = \"decides\"
+code = \"0003ffff0000ffffffffffffffffffffffffffffffff0f0000000000000009000000000200002300000000000000\"
+[[node]]
+program = \"late\"
+[[node]]
+program = \"three\"
+[[node]]
+program = \"decides\"
+[[link]]
+from = 0
+to = 2
+delay = 1
+[[link]]
+from = 0
+to = 1
+delay = 1
+[[link]]
+from = 1
+to = 2
+delay = 3
+[[link]]
+from = 1
+to = 2
+delay = 2
+[[link]]
+from = 1
+to = 2
+delay = 1
+";
+
+const ORDER_OF_PACKETS_REPORT: &str = "report 1 mapping cob ticks 4 nodes 3
+state 0 node 0 trace - outcome running inputs -
+state 1 node 1 trace - outcome running inputs -
+state 2 node 2 trace 0100 outcome running inputs -
+dstate 0 columns 0 1 2
+end states 3 dstates 1 reached 0 open 0
+";
+
+#[test]
+fn order_of_packets(rt: HostRuntime) -> Result<(), Fail> {
+    let ran = call_on(rt.alloc(), ORDER_OF_PACKETS.as_bytes())?;
+    assert_eq!(rt; ran.status, Status::Clean);
+    assert_eq!(rt; ran.text.as_slice(), ORDER_OF_PACKETS_REPORT.as_bytes());
+    Ok(())
+}
+
+/// A packet of eight words, the last register's last, and one of none.
+/// - sender: `boot: const r15, 1`, `send 0, r8, 8`, `send 0, r0, 0`, `ret`
+/// - reads: `recv: recvw r0, 7`, `brz r0, a`, `a: rlen r1`, `brz r1, b`, `b: ret`
+const EIGHT_WORDS_AND_NONE: &str = "version = 1
+ticks = 2
+[[program]]
+name = \"sender\"
+code = \"00040000ffffffffffffffffffffffffffffffffffff010f0000000100000d080800000000000d000000000000002300000000000000\"
+[[program]]
+name = \"reads\"
+code = \"0005ffff0000ffffffffffffffffffffffffffffffff0f0000000007000009000000000200001e0100000000000009010000000400002300000000000000\"
+[[node]]
+program = \"sender\"
+[[node]]
+program = \"reads\"
+[[link]]
+from = 0
+to = 1
+delay = 1
+";
+
+const EIGHT_WORDS_AND_NONE_REPORT: &str = "report 1 mapping cob ticks 2 nodes 2
+state 0 node 0 trace - outcome running inputs -
+state 1 node 1 trace 0011 outcome running inputs -
+dstate 0 columns 0 1
+end states 2 dstates 1 reached 0 open 0
+";
+
+#[test]
+fn eight_words_and_none(rt: HostRuntime) -> Result<(), Fail> {
+    let ran = call_on(rt.alloc(), EIGHT_WORDS_AND_NONE.as_bytes())?;
+    assert_eq!(rt; ran.status, Status::Clean);
+    assert_eq!(rt; ran.text.as_slice(), EIGHT_WORDS_AND_NONE_REPORT.as_bytes());
+    Ok(())
+}
+
+/// Three nodes in a ring pass on an input of node 0 while it is not 0; the guard goes round with it.
+/// - ring: `boot: node r1`, `brz r1, start`, `ret`, `start: timer 0, 1`, `ret`, `timer0: input r0, 1`,
+/// `send 0, r0, 1`, `ret`, `recv: recvw r0, 0`, `brz r0, stop`, `send 0, r0, 1`, `stop: ret`
+const ROUND_A_RING: &str = "version = 1
+ticks = 6
+[[program]]
+name = \"ring\"
+code = \"000c000000080005ffffffffffffffffffffffffffff2101000000000000090100000003000023000000000000000b0000000001000023000000000000000a000000000100000d0100000000000023000000000000000f0000000000000009000000000b00000d010000000000002300000000000000\"
+[[node]]
+program = \"ring\"
+[[node]]
+program = \"ring\"
+[[node]]
+program = \"ring\"
+[[link]]
+from = 0
+to = 1
+delay = 1
+[[link]]
+from = 1
+to = 2
+delay = 1
+[[link]]
+from = 2
+to = 0
+delay = 1
+";
+
+const ROUND_A_RING_REPORT: &str = "report 1 mapping cob ticks 6 nodes 3
+state 0 node 0 trace 1 outcome running inputs -
+state 1 node 1 trace 01 outcome running inputs -
+state 2 node 2 trace 0 outcome running inputs -
+state 3 node 0 trace 10 outcome running inputs 0.0=1
+state 4 node 1 trace 000 outcome running inputs 0.0=1
+state 5 node 2 trace 00 outcome running inputs 0.0=1
+dstate 0 columns 0 1 2
+dstate 1 columns 3 4 5
+end states 6 dstates 2 reached 0 open 0
+";
+
+#[test]
+fn round_a_ring(rt: HostRuntime) -> Result<(), Fail> {
+    let ran = call_on(rt.alloc(), ROUND_A_RING.as_bytes())?;
+    assert_eq!(rt; ran.status, Status::Clean);
+    assert_eq!(rt; ran.text.as_slice(), ROUND_A_RING_REPORT.as_bytes());
+    Ok(())
+}
+
+/// An input goes over a node that holds it for a tick, and over one that passes it on where it is not 0.
+/// - source: `boot: input r0, 1`, `bcast r0, 1`, `ret`
+/// - hold: `recv: recvw r0, 0`, `timer 0, 1`, `ret`, `timer0: send 0, r0, 1`, `ret`
+/// - filter: `recv: recvw r0, 0`, `brz r0, a`, `send 0, r0, 1`, `a: ret`
+/// - asserts: `recv: recvw r0, 0`, `assert r0`, `ret`
+const TWO_WAYS_TO_ONE_NODE: &str = "version = 1
+ticks = 4
+[[program]]
+name = \"source\"
+code = \"00030000ffffffffffffffffffffffffffffffffffff0a000000000100000e010000000000002300000000000000\"
+[[program]]
+name = \"hold\"
+code = \"0005ffff00000003ffffffffffffffffffffffffffff0f000000000000000b0000000001000023000000000000000d010000000000002300000000000000\"
+[[program]]
+name = \"filter\"
+code = \"0004ffff0000ffffffffffffffffffffffffffffffff0f0000000000000009000000000300000d010000000000002300000000000000\"
+[[program]]
+name = \"asserts\"
+code = \"0003ffff0000ffffffffffffffffffffffffffffffff0f0000000000000020000000000000002300000000000000\"
+[[node]]
+program = \"source\"
+[[node]]
+program = \"hold\"
+[[node]]
+program = \"filter\"
+[[node]]
+program = \"asserts\"
+[[link]]
+from = 0
+to = 1
+delay = 1
+[[link]]
+from = 0
+to = 2
+delay = 1
+[[link]]
+from = 1
+to = 3
+delay = 1
+[[link]]
+from = 2
+to = 3
+delay = 1
+";
+
+const TWO_WAYS_TO_ONE_NODE_REPORT: &str = "report 1 mapping cob ticks 4 nodes 4
+state 0 node 0 trace - outcome running inputs -
+state 1 node 1 trace - outcome running inputs -
+state 2 node 2 trace 0 outcome running inputs 0.0=1
+state 3 node 3 trace 00 outcome running inputs 0.0=1
+state 4 node 0 trace - outcome running inputs -
+state 5 node 1 trace - outcome running inputs -
+state 6 node 2 trace 1 outcome running inputs -
+state 7 node 3 trace 0 outcome running inputs 0.0=1
+state 8 node 0 trace - outcome running inputs -
+state 9 node 1 trace - outcome running inputs -
+state 10 node 2 trace 1 outcome running inputs -
+state 11 node 3 trace 1 outcome assert@1@3 inputs -
+dstate 0 columns 0 1 2 3
+dstate 1 columns 4 5 6 7
+dstate 2 columns 8 9 10 11
+failure 11 reached dstate 2 pick 8 9 10 11 inputs -
+end states 12 dstates 3 reached 1 open 0
+";
+
+#[test]
+fn two_ways_to_one_node(rt: HostRuntime) -> Result<(), Fail> {
+    let ran = call_on(rt.alloc(), TWO_WAYS_TO_ONE_NODE.as_bytes())?;
+    assert_eq!(rt; ran.status, Status::Found);
+    assert_eq!(rt; ran.text.as_slice(), TWO_WAYS_TO_ONE_NODE_REPORT.as_bytes());
+    Ok(())
+}
+
+/// Two nodes each claim where their input is not 0, and fail on the other's claim where they claimed too; a third
+/// hears both.
+/// - claims: `boot: input r0, 1`, `brz r0, a`, `bcast r0, 1`, `a: ret`, `recv: brz r0, b`, `assert r1`, `b: ret`
+/// - hears: `recv: recvw r0, 0`, `assert r0`, `ret`
+const TWO_CLAIMS_MEET: &str = "version = 1
+ticks = 2
+[[program]]
+name = \"claims\"
+code = \"000700000004ffffffffffffffffffffffffffffffff0a0000000001000009000000000300000e010000000000002300000000000000090000000006000020010000000000002300000000000000\"
+[[program]]
+name = \"hears\"
+code = \"0003ffff0000ffffffffffffffffffffffffffffffff0f0000000000000020000000000000002300000000000000\"
+[[node]]
+program = \"claims\"
+[[node]]
+program = \"claims\"
+[[node]]
+program = \"hears\"
+[[link]]
+from = 0
+to = 1
+delay = 1
+[[link]]
+from = 0
+to = 2
+delay = 1
+[[link]]
+from = 1
+to = 0
+delay = 1
+[[link]]
+from = 1
+to = 2
+delay = 1
+";
+
+const TWO_CLAIMS_MEET_REPORT: &str = "report 1 mapping cob ticks 2 nodes 3
+state 0 node 0 trace 0 outcome running inputs 0.0=1
+state 1 node 1 trace 11 outcome running inputs 0.0=1
+state 2 node 2 trace 0 outcome running inputs 0.0=1
+state 3 node 0 trace 001 outcome assert@5@1 inputs 0.0=1 1.0=1
+state 4 node 1 trace 001 outcome assert@5@1 inputs 0.0=1 1.0=1
+state 5 node 2 trace 00 outcome running inputs 0.0=1 1.0=1
+state 6 node 0 trace 1 outcome running inputs -
+state 7 node 1 trace 1 outcome running inputs -
+state 8 node 2 trace - outcome running inputs -
+state 9 node 0 trace 11 outcome running inputs 1.0=1
+state 10 node 1 trace 0 outcome running inputs 1.0=1
+state 11 node 2 trace 0 outcome running inputs 1.0=1
+dstate 0 columns 0 1 2
+dstate 1 columns 3 4 5
+dstate 2 columns 6 7 8
+dstate 3 columns 9 10 11
+failure 3 reached dstate 1 pick 3 4 5 inputs 0.0=1 1.0=1
+failure 4 reached dstate 1 pick 3 4 5 inputs 0.0=1 1.0=1
+end states 12 dstates 4 reached 2 open 0
+";
+
+#[test]
+fn two_claims_meet(rt: HostRuntime) -> Result<(), Fail> {
+    let ran = call_on(rt.alloc(), TWO_CLAIMS_MEET.as_bytes())?;
+    assert_eq!(rt; ran.status, Status::Found);
+    assert_eq!(rt; ran.text.as_slice(), TWO_CLAIMS_MEET_REPORT.as_bytes());
+    Ok(())
+}
+
+/// A timer set to tick 4,095, the last of 4,096, and one that is due after them.
+/// - waits: `boot: timer 1, 65535`, `timer 0, 4095`, `ret`, `timer0: halt`
+const THE_LAST_OF_ALL_TICKS: &str = "version = 1
+ticks = 4096
+[[program]]
+name = \"waits\"
+code = \"00040000ffff0003ffffffffffffffffffffffffffff0b010000ffff00000b0000000fff000023000000000000002400000000000000\"
+[[node]]
+program = \"waits\"
+";
+
+const THE_LAST_OF_ALL_TICKS_REPORT: &str = "report 1 mapping cob ticks 4096 nodes 1
+state 0 node 0 trace - outcome halted inputs -
+dstate 0 columns 0
+end states 1 dstates 1 reached 0 open 0
+";
+
+/// With one tick less.
+const THE_LAST_OF_ALL_TICKS_A_TICK_LESS: &str = "report 1 mapping cob ticks 4095 nodes 1
+state 0 node 0 trace - outcome running inputs -
+dstate 0 columns 0
+end states 1 dstates 1 reached 0 open 0
+";
+
+#[test]
+fn the_last_of_all_ticks(rt: HostRuntime) -> Result<(), Fail> {
+    let ran = call_on(rt.alloc(), THE_LAST_OF_ALL_TICKS.as_bytes())?;
+    assert_eq!(rt; ran.status, Status::Clean);
+    assert_eq!(rt;
+        ran.text.as_slice(),
+        THE_LAST_OF_ALL_TICKS_REPORT.as_bytes()
+    );
+    let file = THE_LAST_OF_ALL_TICKS.replace(rt.alloc(), "ticks = 4096", "ticks = 4095")?;
+    let ran = call_on(rt.alloc(), file.as_bytes())?;
+    assert_eq!(rt; ran.status, Status::Clean);
+    assert_eq!(rt;
+        ran.text.as_slice(),
+        THE_LAST_OF_ALL_TICKS_A_TICK_LESS.as_bytes()
+    );
+    Ok(())
+}
+
+/// 170 branches in one event.
+/// - wide: `boot: input r0, 1`, `brz r0, a`, `a: jmp boot`
+const MORE_PREFIXES_THAN_THE_LIMIT: &str = "version = 1
+ticks = 1
+[[program]]
+name = \"wide\"
+code = \"00030000ffffffffffffffffffffffffffffffffffff0a0000000001000009000000000200000800000000000000\"
+[[node]]
+program = \"wide\"
+";
+
+const MORE_PREFIXES_THAN_THE_LIMIT_REPORT: &str = "netsym: limit states tick 0
+";
+
+#[test]
+fn more_prefixes_than_the_limit(rt: HostRuntime) -> Result<(), Fail> {
+    let ran = call_on(rt.alloc(), MORE_PREFIXES_THAN_THE_LIMIT.as_bytes())?;
+    assert_eq!(rt; ran.status, Status::Limit);
+    assert_eq!(rt;
+        ran.text.as_slice(),
+        MORE_PREFIXES_THAN_THE_LIMIT_REPORT.as_bytes()
+    );
+    Ok(())
+}
+
+/// Seven branches of each of two nodes at tick 1 are 16,384 scenarios.
+/// - seven: `boot: timer 0, 1`, `ret`, `timer0: input r0, 1`, `brz r0, a`, `a: input r0, 1`, `brz r0, b`,
+/// `b: input r0, 1`, `brz r0, c`, `c: input r0, 1`, `brz r0, d`, `d: input r0, 1`, `brz r0, e`, `e: input r0, 1`,
+/// `brz r0, f`, `f: input r0, 1`, `brz r0, g`, `g: ret`
+const MORE_SCENARIOS_THAN_THE_LIMIT: &str = "version = 1
+ticks = 3
+[[program]]
+name = \"seven\"
+code = \"00110000ffff0002ffffffffffffffffffffffffffff0b0000000001000023000000000000000a0000000001000009000000000400000a0000000001000009000000000600000a0000000001000009000000000800000a0000000001000009000000000a00000a0000000001000009000000000c00000a0000000001000009000000000e00000a0000000001000009000000001000002300000000000000\"
+[[node]]
+program = \"seven\"
+[[node]]
+program = \"seven\"
+";
+
+const MORE_SCENARIOS_THAN_THE_LIMIT_REPORT: &str = "netsym: limit dstates tick 1
+";
+
+#[test]
+fn more_scenarios_than_the_limit(rt: HostRuntime) -> Result<(), Fail> {
+    let ran = call_on(rt.alloc(), MORE_SCENARIOS_THAN_THE_LIMIT.as_bytes())?;
+    assert_eq!(rt; ran.status, Status::Limit);
+    assert_eq!(rt;
+        ran.text.as_slice(),
+        MORE_SCENARIOS_THAN_THE_LIMIT_REPORT.as_bytes()
+    );
+    Ok(())
+}
