@@ -3,9 +3,7 @@ use Rattle.std.proofs.Common.{◌≡◌, ℕ, ◌+◌, ◌<◌, Bool, true, fals
 use Rattle.std.specs.Prelude.{◌||◌, not}
 use Rattle.std.proofs.lemmas.List.{append_assoc, map-append, take_more, take-append-drop}
 use Rattle.kn_model.specs.Values.{Literal}
-use Rattle.kn_model.specs.Terms.{Term, terms}
-use Rattle.kn_model.specs.Rows.{Way}
-use Rattle.kn_model.specs.Paths.{decided}
+use Rattle.kn_model.specs.Terms.{Term}
 use Rattle.kn_model.specs.Conditions.{Condition}
 use Rattle.kn_model.specs.Deciding.{is_false, opposes, some_opposes, clashes}
 use Rattle.kn_model.proofs.Clashing.{clash_stays, not_true}

@@ -13,7 +13,7 @@ use Rattle.kn_plan.specs.Valid.{IsNet, IsLink}
 use Rattle.kn_model.specs.Laws as laws
 use Rattle.kn_model.specs.Due.{due, left, or_else, mail_of, timer_from, boot_due, is_open, how_many, comes_at, is_set_to}
 use Rattle.kn_model.specs.Rows.{Here, Way}
-use Rattle.kn_model.specs.Paths.{Path, goes_by, runs, chooses, doubled, with_loss, arrives, comes, event_ways, event_paths, here_at, first_way, begun, mail_in, path_of}
+use Rattle.kn_model.specs.Paths.{goes_by, runs, chooses, doubled, with_loss, arrives, comes, event_ways, event_paths, here_at, first_way, begun, mail_in}
 use Rattle.kn_model.specs.Conditions.{Condition}
 use Rattle.netsym.specs.declared.explore.event.Event.{Event}
 use Rattle.netsym.specs.declared.explore.event.Event.TheVariants as events

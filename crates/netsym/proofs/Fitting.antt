@@ -4,16 +4,15 @@ use Rattle.std.specs.Prelude.{filter}
 use Rattle.std.specs.List.{AllByRecursion}
 use Rattle.std.proofs.lemmas.List.{map-append, append_assoc}
 use Rattle.std.proofs.lemmas.List.Elements.{filter-append}
-use Rattle.kn_model.specs.Values.{Literal, negated}
+use Rattle.kn_model.specs.Values.{negated}
 use Rattle.kn_model.specs.Terms.{Term, terms}
 use Rattle.kn_model.specs.Histories.{Boot}
 use Rattle.kn_model.specs.Nets.{Network, Link}
 use Rattle.kn_model.specs.Nodes.{Fuel, is_running, state_of}
 use Rattle.kn_model.specs.Rows.{Here, Way, Effect}
 use Rattle.kn_model.specs.Rows as rows
-use Rattle.kn_model.specs.Paths.{Path, goes_by, decided, after, one_way, effect_at, ways, runs_from, path_of}
+use Rattle.kn_model.specs.Paths.{Path, goes_by, decided, after, one_way, effect_at, ways, path_of}
 use Rattle.kn_model.specs.Conditions.{Condition}
-use Rattle.kn_model.specs.Laws.{IsNet}
 use Rattle.kn_model.proofs.EachWay.{Kept, IsHere, Each, at_keeps, all_ways}
 use Rattle.kn_model.proofs.Sending.{is_here}
 use Rattle.kn_model.proofs.Dropping.{none_passes}

@@ -1,16 +1,14 @@
 -- A report that is made scenario by scenario.
-use Rattle.std.proofs.Common.{◌≡◌, ℕ, zero, suc, ◌+◌, ◌-◌, ◌<◌, Bool, true, false, List, [], ◌∷◌, ◌++◌, length, map, take, drop, get_or, refl, sym, ap, subst, ◌∙◌, arith, append_assoc}
-use Rattle.std.specs.Prelude.{◌||◌, flat_map}
+use Rattle.std.proofs.Common.{◌≡◌, ℕ, zero, suc, ◌+◌, ◌-◌, ◌<◌, List, [], ◌∷◌, ◌++◌, length, take, drop, get_or, refl, sym, ap, subst, ◌∙◌, arith, append_assoc}
+use Rattle.std.specs.Prelude.{flat_map}
 use Rattle.std.specs.List.{AllByRecursion}
-use Rattle.std.proofs.lemmas.List.{map-append, take_more, take-append-drop, length-append}
+use Rattle.std.proofs.lemmas.List.{take_more, length-append}
 use Rattle.std.proofs.lemmas.List.Concat.{flat_map-cons}
 use Rattle.std.proofs.Math.Seq.{drop-cons}
 use Rattle.kn_model.specs.Terms.{Term}
 use Rattle.kn_model.specs.Nodes.{State}
-use Rattle.kn_model.specs.Deciding.{IsPlain, is_false, clashes, joined}
+use Rattle.kn_model.specs.Deciding.{IsPlain, joined}
 use Rattle.kn_model.specs.Reports.{StateLine, FailureLine, singles}
-use Rattle.netsym.specs.declared.explore.value.Decision.{Decision}
-use Rattle.netsym.specs.Views.{literal_of}
 use Rattle.netsym.specs.Plain.{ArePlain, AreLong}
 use Rattle.netsym.specs.Listing.{lines_from, numbers, reach_of, failures_in, dstates_from, failures_from}
 

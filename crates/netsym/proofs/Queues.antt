@@ -1,5 +1,5 @@
 -- Packets on their way in order.
-use Rattle.std.proofs.Common.{◌≡◌, ℕ, Bool, true, false, cond, List, [], ◌∷◌, refl, ap, ◌∙◌}
+use Rattle.std.proofs.Common.{◌≡◌, ℕ, cond, List, [], ◌∷◌, refl, ap}
 use Rattle.std.specs.Prelude.{nat_eq}
 use Rattle.kn_built.specs.Putting as built
 use Rattle.kn_model.specs.Packets.{Packet, without_first}

@@ -1,5 +1,5 @@
 -- What the program holds of the scenarios of a tick: when a tick is closed, a condition may be written in another way.
-use Rattle.std.specs.Prelude.{ℕ, zero, suc, Bool, true, false, not, ◌&&◌, ◌||◌, if◌then◌else◌, nat_eq, List, [], ◌∷◌, ◌++◌, map, flat_map, filter, length}
+use Rattle.std.specs.Prelude.{ℕ, zero, suc, Bool, false, not, ◌&&◌, ◌||◌, if◌then◌else◌, nat_eq, List, [], ◌∷◌, ◌++◌, map, flat_map, filter, length}
 use Rattle.kn_model.specs.Values.{Literal}
 use Rattle.kn_model.specs.Terms.{Term, Word, Input, terms, same_bit}
 use Rattle.kn_model.specs.Nets.{Network}

@@ -1,5 +1,5 @@
 -- What a packet on its way is in the definitions.
-use Rattle.std.specs.Prelude.{ℕ, List, map}
+use Rattle.std.specs.Prelude.{ℕ, map}
 use Rattle.kn_model.specs.Terms.{Term}
 use Rattle.kn_model.specs.Packets.{Packet}
 use Rattle.netsym.specs.declared.explore.mail.Letter.{Letter}

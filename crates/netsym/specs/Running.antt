@@ -1,5 +1,5 @@
 -- Where an event runs, and the states of nodes that neither lose packets nor reboot.
-use Rattle.std.specs.Prelude.{◌≡◌, ℕ, ◌<◌, ◌≤◌, length, [], None}
+use Rattle.std.specs.Prelude.{◌≡◌, ◌<◌, ◌≤◌, length, [], None}
 use Rattle.std.specs.List.{AllByRecursion}
 use Rattle.kn_code.specs.Code.{no_code}
 use Rattle.kn_model.specs.Terms.{Term}

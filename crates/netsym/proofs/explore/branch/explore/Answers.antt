@@ -1,4 +1,4 @@
-use Rattle.std.proofs.Common.{◌≡◌, length, map, sym, ap, subst, ◌∙◌}
+use Rattle.std.proofs.Common.{length, map, sym, ap, subst, ◌∙◌}
 use Rattle.netsym.specs.Keeping.{states_in}
 use Rattle.netsym.specs.declared.explore.value.Keep.TheVariants as keeps
 use Rattle.netsym.specs.Deciding.{live_of}

@@ -1,4 +1,4 @@
-use Rattle.std.proofs.Common.{◌≡◌, ◌+◌, ◌≤◌, length, sym, subst, ap, ◌∙◌, arith}
+use Rattle.std.proofs.Common.{◌≡◌, ◌+◌, ◌≤◌, length, sym, subst, arith}
 use Rattle.netsym.specs.Deciding.{live_of}
 use Rattle.netsym.specs.Writing.{written_of}
 use Rattle.netsym.specs.Keeping.{AreKept}

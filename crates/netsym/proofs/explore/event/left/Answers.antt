@@ -1,5 +1,5 @@
-use Rattle.std.proofs.Common.{◌≡◌, true, sym, ap, ◌∙◌, ◌+◌, arith}
-use Rattle.kn_model.specs.Due.{is_open, boot_due, how_many, comes_at, is_set_to, left}
+use Rattle.std.proofs.Common.{◌≡◌, true, sym, ◌∙◌, arith}
+use Rattle.kn_model.specs.Due.{is_open, boot_due}
 use Rattle.netsym.proofs.DueEvents.{left_open}
 use Rattle.netsym.proofs.explore.event.left.Goals as goal
 

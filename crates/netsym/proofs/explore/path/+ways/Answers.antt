@@ -6,7 +6,7 @@ use Rattle.kn_model.specs.Values.{negated}
 use Rattle.kn_model.specs.Terms.{terms}
 use Rattle.kn_model.specs.Paths.{decided, ways}
 use Rattle.netsym.specs.Views.{literal_of}
-use Rattle.netsym.specs.Deciding.{live_of, lives}
+use Rattle.netsym.specs.Deciding.{live_of}
 use Rattle.netsym.specs.Running.{here_of}
 use Rattle.netsym.proofs.Fitting.{spot_good, dead_ways, ways_by, ways_after, ways_ended, EachLives, step_lives, passing_stop, passing_both}
 use Rattle.netsym.proofs.Passing.{keep_falls}

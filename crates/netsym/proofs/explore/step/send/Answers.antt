@@ -1,7 +1,7 @@
-use Rattle.std.proofs.Common.{◌≡◌, ◌+◌, ◌≤◌, List, map, length, ap, sym, ◌∙◌, arith}
+use Rattle.std.proofs.Common.{◌≡◌, ◌+◌, ◌≤◌, List, map, length, ap, ◌∙◌, arith}
 use Rattle.std.specs.Arc.{arc_value}
 use Rattle.kn_model.specs.Terms.{Term, terms}
-use Rattle.kn_model.specs.Rows.{Way, next, sent_over, span}
+use Rattle.kn_model.specs.Rows.{next, sent_over, span}
 use Rattle.netsym.specs.declared.explore.mail.Letter.{Letter}
 use Rattle.netsym.specs.Views.{term_of}
 use Rattle.netsym.specs.Running.{sender_here}

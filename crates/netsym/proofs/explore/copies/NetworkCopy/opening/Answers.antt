@@ -1,6 +1,5 @@
-use Rattle.std.proofs.Common.{◌≡◌, ap, sym, ◌∙◌, map, refl}
+use Rattle.std.proofs.Common.{ap, ◌∙◌, map, refl}
 use Rattle.std.proofs.lemmas.List.{take_more, map-append, take_all}
-use Rattle.std.specs.Arc.{arc_value}
 use Rattle.kn_model.specs.Nets.{Plan, no_plan}
 use Rattle.netsym.proofs.Openings.{start, starts}
 use Rattle.netsym.proofs.explore.copies.NetworkCopy.opening.Goals as goal

@@ -1,2 +1,1 @@
-use Rattle.netsym.proofs.explore.copies.NodeNow.receive.Goals as goal
 

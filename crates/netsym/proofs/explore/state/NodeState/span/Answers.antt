@@ -1,4 +1,4 @@
-use Rattle.std.proofs.Common.{map, take, drop, ap, sym, ◌∙◌, ◌-◌, ◌+◌, ◌≡◌, ℕ, List, arith}
+use Rattle.std.proofs.Common.{map, take, drop, ap, ◌∙◌, ◌-◌, ◌+◌, ◌≡◌, ℕ, List, arith}
 use Rattle.std.proofs.lemmas.List.{take-map, drop-map}
 use Rattle.netsym.specs.declared.explore.value.Value.{Value}
 use Rattle.netsym.specs.Views.{term_of}

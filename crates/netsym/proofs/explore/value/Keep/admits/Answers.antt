@@ -1,9 +1,7 @@
-use Rattle.std.proofs.Common.{◌≡◌, Bool, true, map, sym, ap, ◌∙◌, ◌++◌, ◌∷◌, []}
+use Rattle.std.proofs.Common.{◌≡◌, true, map, sym, ap, ◌∙◌, ◌++◌}
 use Rattle.std.specs.Prelude.{not}
 use Rattle.kn_model.specs.Deciding.{clashes}
-use Rattle.netsym.specs.declared.explore.value.Keep.{Keep}
 use Rattle.netsym.specs.Views.{literal_of}
-use Rattle.netsym.specs.Deciding.{live_of}
 use Rattle.netsym.proofs.Clashing.{still_passes}
 use Rattle.netsym.proofs.explore.value.Keep.admits.Goals as goal
 
