@@ -17,3 +17,6 @@ pub use copies::NetworkCopy;
 pub use scenario::Scenario;
 pub use state::{FailKind, NodeState, Outcome};
 pub use value::{Decision, Keep, Value, clash};
+
+#[cfg(test)]
+mod tests;

@@ -15,4 +15,6 @@ pub use status::Status;
 pub use top::{run_alone, words_ok};
 
 #[cfg(test)]
+mod packet_tests;
+#[cfg(test)]
 mod tests;
