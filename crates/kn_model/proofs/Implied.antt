@@ -6,7 +6,7 @@ use Rattle.std.proofs.lemmas.List.{length-set}
 use Rattle.kn_model.specs.Values.{Literal, Values}
 use Rattle.kn_model.specs.Terms.{Term, Valuation, terms}
 use Rattle.kn_model.specs.Histories.{Event, Boot, Reboot, Mail, Timer}
-use Rattle.kn_model.specs.Packets.{Packet, Parcel, put_in, put_all, parcel_le}
+use Rattle.kn_model.specs.Packets.{Packet, Parcel, parcel_le}
 use Rattle.kn_model.specs.Nodes.{State, Node}
 use Rattle.kn_model.specs.Nets.{Network, Plan, opening_node, no_plan}
 use Rattle.kn_model.specs.Due.{due, left}
@@ -19,7 +19,7 @@ use Rattle.kn_model.specs.Deciding.{joined}
 use Rattle.kn_model.specs.Reports.{Report, Shows, RunShows, pick_condition}
 use Rattle.kn_model.specs.Laws.{IsNet}
 use Rattle.kn_model.specs.Alikes.{MetAt}
-use Rattle.kn_model.proofs.Lists.{all-append, all-map, all-filter, all-flat, all-weaker}
+use Rattle.kn_model.proofs.Lists.{all-append, all-map, all-filter, all-flat, all-weaker, all-set, all-get_or, all-put_all}
 use Rattle.kn_model.proofs.EachWay.{Kept, all_event_ways}
 use Rattle.kn_model.proofs.Naming.{opening_length}
 use Rattle.kn_model.proofs.Sending.{is_here}
@@ -30,28 +30,6 @@ use Rattle.kn_model.proofs.Coverage as members
 use Rattle.kn_model.proofs.OneRun as runs
 
 -- lists
-all-set : {A : Type 0} (P : A → Type 0) (xs : List A) (n : ℕ) (x : A) → AllByRecursion P xs → P x → AllByRecursion P (set xs n x)
-all-set P [] n x h p = tt
-all-set P (y ∷ xs) zero x h p = (p, h.1)
-all-set P (y ∷ xs) (suc n) x h p = (h.0, all-set P xs n x h.1 p)
-
-all-get_or : {A : Type 0} (P : A → Type 0) (xs : List A) (n : ℕ) (d : A) → AllByRecursion P xs → P d → P (get_or xs n d)
-all-get_or P [] n d h p = p
-all-get_or P (x ∷ xs) zero d h p = h.0
-all-get_or P (x ∷ xs) (suc n) d h p = all-get_or P xs n d h.1 p
-
-all-put_in : {A : Type 0} (P : A → Type 0) (le : A → A → Bool) (x : A) (xs : List A) → P x → AllByRecursion P xs → AllByRecursion P (put_in le x xs)
-all-put_in P le x [] p h = (p, tt)
-all-put_in P le x (y ∷ ys) p h = go (le x y) (all-put_in P le x ys p h.1)
-  where
-    go : (b : Bool) → AllByRecursion P (put_in le x ys) → AllByRecursion P (cond b (x ∷ y ∷ ys) (y ∷ put_in le x ys))
-    go true ih = (p, h)
-    go false ih = (h.0, ih)
-
-all-put_all : {A : Type 0} (P : A → Type 0) (le : A → A → Bool) (xs ys : List A) → AllByRecursion P xs → AllByRecursion P ys → AllByRecursion P (put_all le xs ys)
-all-put_all P le [] ys p h = h
-all-put_all P le (x ∷ xs) ys p h = all-put_all P le xs (put_in le x ys) p.1 (all-put_in P le x ys p.0 h)
-
 pub all-contains : {A : Type 0} (P : A → Type 0) (xs : List A) (x : A) → AllByRecursion P xs → Contains xs x → P x
 all-contains {A} P xs x h c = go xs h c.0 c.1 c.2
   where

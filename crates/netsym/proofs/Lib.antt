@@ -1,6 +1,8 @@
 pub mod Edits
 pub mod Clashing
 pub mod Plain
+pub mod PlainWays
+pub mod Plainness
 pub mod Steps
 pub mod Queues
 pub mod KeptSeen
