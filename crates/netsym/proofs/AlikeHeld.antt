@@ -85,7 +85,7 @@ flat_alike step keeps (ys ∷ xs) (zs ∷ list) h =
     ∙ (ap (λ (l : List (List Seen)). l ++ map tidy_all (flat_map step xs)) (keeps ys zs first)
     ∙ (ap (λ (l : List (List Seen)). map tidy_all (step zs) ++ l) (flat_alike step keeps xs list rest) ∙ sym (map-append tidy_all (step zs) (flat_map step list))))
 
-state_alike : (ys zs : List Seen) (n : ℕ) → Alike ys zs → tidy_state (seen_at ys n).state ≡ tidy_state (seen_at zs n).state
+pub state_alike : (ys zs : List Seen) (n : ℕ) → Alike ys zs → tidy_state (seen_at ys n).state ≡ tidy_state (seen_at zs n).state
 state_alike ys zs n h = ap (λ (y : Seen). y.state) (sym (seen_tidy ys n) ∙ (ap (λ (xs : List Seen). seen_at xs n) h ∙ seen_tidy zs n))
 
 -- A condition is written in a way that says the same.
@@ -93,7 +93,7 @@ abbrev pub SaysSame : (Condition → Condition) → Type 0
 SaysSame f = (c : Condition) → tidied (f c) ≡ tidied c
 
 module _ (live : Condition → Bool) (same : (c : Condition) → live (tidied c) ≡ live c) where
-  lives_tidy : (ps : List (Path Term)) → map tidy_path (filter (path_lives live) ps) ≡ filter (path_lives live) (map tidy_path ps)
+  pub lives_tidy : (ps : List (Path Term)) → map tidy_path (filter (path_lives live) ps) ≡ filter (path_lives live) (map tidy_path ps)
   lives_tidy ps = sym (filter_map_same (path_lives live) (path_lives live) tidy_path (λ p. same p.state.own) ps)
 
   live_tidy : (ys : List Seen) → all_live live (tidy_all ys) ≡ all_live live ys
@@ -127,7 +127,7 @@ module _ (live : Condition → Bool) (same : (c : Condition) → live (tidied c)
             ∙ (ap (after_paths n (tidy_all zs)) (paths_alike net n t e (seen_at ys n).state (seen_at zs n).state alike)
             ∙ sym (after_tidy n zs (from (seen_at zs n)))))
 
-    turns_alike : (n m : ℕ) → Keeps (kept_turns live net n t m)
+    pub turns_alike : (n m : ℕ) → Keeps (kept_turns live net n t m)
     turns_alike n zero ys zs h = ap (λ (xs : List Seen). xs ∷ []) h
     turns_alike n (suc m) ys zs h = flat_alike (kept_turns live net n t m) (turns_alike n m) (kept_copies live net n t ys) (kept_copies live net n t zs) (copies_alike n ys zs h)
 

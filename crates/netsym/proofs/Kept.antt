@@ -174,7 +174,7 @@ module _ (live : Condition → Bool) where
               ∙ (ap (λ (y : State Term). filter (all_live live) (map (copied_along (seen_in s) n) (event_paths terms net n t e y))) (state_seen s)
               ∙ by_test e (all_live live (seen_in s)) refl)
 
-      turns_follow : (m : ℕ) → Follows net (turns terms net n t m) (kept_turns live net n t m)
+      pub turns_follow : (m : ℕ) → Follows net (turns terms net n t m) (kept_turns live net n t m)
       turns_follow zero s h = refl
       turns_follow (suc m) s h =
           then_follows net (copies terms net n t) (turns terms net n t m) (kept_copies live net n t) (kept_turns live net n t m) (whole_copies net t fine n) copies_follow (turns_follow m) s h

@@ -22,6 +22,8 @@ pub mod Walking
 pub mod Alike
 pub mod AlikeHeld
 pub mod Told
+pub mod Behind
+pub mod Traces
 pub mod Numbered
 pub mod Given
 pub mod Failing
