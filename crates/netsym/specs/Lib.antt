@@ -11,6 +11,7 @@ pub mod Holding
 pub mod Writing
 pub mod Running
 pub mod Limiting
+pub mod Stopping
 pub mod Stepped
 pub mod Valuations
 pub mod ReportViews

@@ -9,6 +9,7 @@ mod path;
 mod scenario;
 mod state;
 mod step;
+mod stop;
 mod value;
 mod way;
 
@@ -16,6 +17,7 @@ pub use branch::{all_copies, explore};
 pub use copies::NetworkCopy;
 pub use scenario::Scenario;
 pub use state::{FailKind, NodeState, Outcome};
+pub use stop::{LimitKind, Stop};
 pub use value::{Decision, Keep, Value, clash};
 
 #[cfg(test)]

@@ -1,0 +1,20 @@
+//! Why an exploration stops.
+
+use std::alloc::AllocError;
+use thiserror::Error;
+
+/// What is limited under copy on branch: the paths of one event, by `states`, or the scenarios, by `dstates`.
+#[derive(Clone, Copy, Debug, PartialEq, Eq)]
+pub enum LimitKind {
+    States,
+    Dstates,
+}
+
+/// Why an exploration gives no scenarios: memory ran out, or a limit was passed in a tick.
+#[derive(Debug, Drop, Error)]
+pub enum Stop {
+    #[error("out of memory")]
+    Memory(#[from] AllocError),
+    #[error("a limit was passed")]
+    Limit { kind: LimitKind, tick: u32 },
+}
