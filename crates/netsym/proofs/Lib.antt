@@ -19,6 +19,10 @@ pub mod TidiedTests
 pub mod Walking
 pub mod Alike
 pub mod AlikeHeld
+pub mod Sides
+pub mod Leading
+pub mod Longer
+pub mod Counts
 pub mod Told
 pub mod Numbered
 pub mod Given
