@@ -21,6 +21,10 @@ pub mod TidiedTests
 pub mod Walking
 pub mod Alike
 pub mod AlikeHeld
+pub mod Sides
+pub mod Leading
+pub mod Longer
+pub mod Counts
 pub mod Told
 pub mod Behind
 pub mod Traces
