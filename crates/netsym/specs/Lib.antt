@@ -10,6 +10,7 @@ pub mod Keeping
 pub mod Holding
 pub mod Writing
 pub mod Running
+pub mod Fronts
 pub mod Limiting
 pub mod Stopping
 pub mod Stepped

@@ -35,3 +35,11 @@ module _ (live : Condition → Bool) (f : Condition → Condition) (net : Networ
   pub data HasManyCopies : Type 0 where
     InTurns : (n turns : ℕ) (start : List Seen) → n < length net.nodes → Contains (copies_before n) start → net.limits.dstates < length (kept_turns live net n t turns start) → HasManyCopies
     InNodes : (n : ℕ) → n ≤ length net.nodes → net.limits.dstates < length (copies_before n) → HasManyCopies
+
+  -- the copies of one copy after so many turns of node n
+  pub record AreTurned (n : ℕ) (list : List (List Seen)) : Type 0 where
+    pub within : n < length net.nodes
+    pub first : List Seen
+    pub first_from : Contains (copies_before n) first
+    pub turned : ℕ
+    pub are : list ≡ kept_turns live net n t turned first

@@ -26,7 +26,10 @@ pub fn report_of_net(alloc: Global, net: &Net) -> Result<Report, AllocError>
     ensures given { IfOk result (λ r. Gives r net.now) }
     ensures mapping { IfOk result (λ r. r.mapping ≡ Cob) }
 {
-    let mut scenarios = explore(alloc, net)?;
+    let mut scenarios = match explore(alloc, net) {
+        Ok(scenarios) => scenarios,
+        Err(_) => return Err(AllocError),
+    };
     sort_by_name(node_count(net), &mut scenarios);
     let report = report_from(alloc, net, &scenarios)?;
     Ok(report)

@@ -1,6 +1,10 @@
 //! Copying the whole network at every branch.
 
-ghost use Rattle.std.specs.Prelude.{◌≡◌, ◌+◌, ◌++◌, ◌<◌, ◌≤◌, map, flat_map, length, IfOk, OnOk};
+ghost use Rattle.std.specs.Prelude.{◌≡◌, ◌+◌, ◌++◌, ◌∷◌, [], ◌<◌, ◌≤◌, map, flat_map, filter, length, Contains, Some, IfOk, IfErr, OnOk};
+ghost use Rattle.std.specs.List.{AllByRecursion};
+ghost use Rattle.kn_code.specs.Code.{IsValid};
+ghost use Rattle.kn_model.specs.Due.{due};
+ghost use Rattle.kn_model.specs.Paths.{event_paths};
 ghost use Rattle.kn_model.specs.Laws.{IsNet};
 ghost use Rattle.kn_model.specs.Scenarios.{cob};
 ghost use Rattle.kn_model.specs.Terms.{terms};
@@ -8,13 +12,17 @@ ghost use Rattle.netsym.specs.Plans.{IsBare};
 ghost use Rattle.netsym.specs.Deciding.{live_of};
 ghost use Rattle.netsym.specs.Writing.{written_of};
 ghost use Rattle.netsym.specs.Plain.{AreLong};
-ghost use Rattle.netsym.specs.Keeping.{IsKept, AreKept, seen_in, kept_copies, kept_settled, copied_along, states_in};
+ghost use Rattle.netsym.specs.Events.{event_of, handler_of};
+ghost use Rattle.netsym.specs.Limiting.{IsMetCopy, AreTurned, copies_before};
+ghost use Rattle.netsym.specs.Stopping.{StopsIn, StopsBefore, IsPassed};
+ghost use Rattle.netsym.specs.Keeping.{IsKept, AreKept, seen_in, seen_at, path_lives, kept_copies, kept_settled, copied_along, states_in};
 ghost use Rattle.netsym.specs.Holding.{run_nodes, shut_all, held_at, tidied};
 
 use crate::explore::copies::NetworkCopy;
-use crate::explore::event::{due, left};
+use crate::explore::event::{Event, due, left};
 use crate::explore::path::{PathTaken, event_paths};
 use crate::explore::scenario::Scenario;
+use crate::explore::stop::{EventStop, LimitKind, Stop};
 use crate::explore::value::Keep;
 use crate::plan::node_count;
 use kn_plan::Net;
@@ -25,6 +33,23 @@ use std::alloc::{AllocError, Global};
 pub struct Place {
     pub node: u32,
     pub tick: u32,
+}
+
+/// Appends a copy.
+fn push(copy: NetworkCopy, out: &mut Vec<NetworkCopy>) -> Result<(), AllocError>
+    ensures { OnOk result (out.new.items ≡ out.old.items ++ (copy ∷ [])) }
+{
+    out.push(copy)?;
+    Ok(())
+}
+
+/// Appends copies.
+fn append(copies: Vec<NetworkCopy>, out: &mut Vec<NetworkCopy>) -> Result<(), AllocError>
+    ensures { OnOk result (out.new.items ≡ out.old.items ++ copies.items) }
+{
+    let mut copies = copies;
+    out.append(&mut copies)?;
+    Ok(())
 }
 
 /// Appends one copy for each path of a node's event.
@@ -44,6 +69,34 @@ fn put_along(
     Ok(())
 }
 
+/// The paths of a node's due event that pass.
+fn paths_of(
+    alloc: Global,
+    net: &Net,
+    keep: Keep,
+    place: Place,
+    event: Event,
+    copy: &NetworkCopy,
+) -> Result<Vec<PathTaken>, Stop>
+    requires sound { IsNet net.now }
+    requires kept { IsKept (live_of keep) net.now copy.now }
+    requires met { IsMetCopy (live_of keep) (written_of keep) net.now place.tick place.node copy.now }
+    requires due { due net.now.limits.ticks place.tick (seen_at copy.now place.node).state ≡ Some (event_of event) }
+    requires low { handler_of event < 10 }
+    ensures ok { IfOk result (λ v. v.items ≡ filter (path_lives (live_of keep)) (event_paths terms net.now place.node place.tick (event_of event) (seen_at copy.now place.node).state)) }
+    ensures stop { IfErr result (StopsIn keep net.now place.tick) }
+{
+    let state = copy.node(place.node).state();
+    match event_paths(alloc, net, keep, place.node, place.tick, event, state) {
+        Ok(paths) => Ok(paths),
+        Err(EventStop::Memory(error)) => Err(Stop::Memory(error)),
+        Err(EventStop::TooMany) => Err(Stop::Limit {
+            kind: LimitKind::States,
+            tick: place.tick,
+        }),
+    }
+}
+
 /// Appends one copy for each path of a node's due event that passes; the copy itself where nothing is due.
 fn put_copies(
     alloc: Global,
@@ -52,20 +105,35 @@ fn put_copies(
     place: Place,
     copy: NetworkCopy,
     out: &mut Vec<NetworkCopy>,
-) -> Result<(), AllocError>
+) -> Result<(), Stop>
     requires sound { IsNet net.now }
-    requires node { place.node < length net.now.nodes }
     requires kept { IsKept (live_of keep) net.now copy }
-    ensures { OnOk result (out.new.items ≡ out.old.items ++ kept_copies (live_of keep) net.now place.node place.tick copy) }
+    requires met { IsMetCopy (live_of keep) (written_of keep) net.now place.tick place.node copy }
+    ensures ok { OnOk result (out.new.items ≡ out.old.items ++ kept_copies (live_of keep) net.now place.node place.tick copy) }
+    ensures stop { IfErr result (StopsIn keep net.now place.tick) }
 {
     net.bounds();
     let state = copy.node(place.node).state();
     let Some(event) = due(net.limits.ticks, place.tick, state) else {
-        out.push(copy)?;
+        push(copy, out)?;
         return Ok(());
     };
-    let paths = event_paths(alloc, net, keep, place.node, place.tick, event, state)?;
-    put_along(&copy, place.node, paths, out)
+    let paths = paths_of(alloc, net, keep, place, event, &copy)?;
+    put_along(&copy, place.node, paths, out)?;
+    Ok(())
+}
+
+/// Err where there are more copies than the network's limit of dstates.
+fn within_limit(net: &Net, tick: u32, copies: &[NetworkCopy]) -> Result<(), Stop>
+    ensures { IfErr result (λ s. (s ≡ Stop.Limit LimitKind.Dstates tick) × (net.now.limits.dstates < length copies.now)) }
+{
+    if copies.len() > net.limits.dstates {
+        return Err(Stop::Limit {
+            kind: LimitKind::Dstates,
+            tick,
+        });
+    }
+    Ok(())
 }
 
 /// Each copy in which an event of the node is due is replaced by one copy for each path that passes.
@@ -75,15 +143,17 @@ fn turn(
     keep: Keep,
     place: Place,
     list: Vec<NetworkCopy>,
-) -> Result<Vec<NetworkCopy>, AllocError>
+) -> Result<Vec<NetworkCopy>, Stop>
     requires sound { IsNet net.now }
-    requires node { place.node < length net.now.nodes }
     requires kept { AreKept (live_of keep) net.now list.items }
-    ensures { IfOk result (λ v. v.items ≡ flat_map (kept_copies (live_of keep) net.now place.node place.tick) list.items) }
+    requires turned { AreTurned (live_of keep) (written_of keep) net.now place.tick place.node list.items }
+    ensures ok { IfOk result (λ v. v.items ≡ flat_map (kept_copies (live_of keep) net.now place.node place.tick) list.items) }
+    ensures stop { IfErr result (StopsIn keep net.now place.tick) }
 {
     let mut out = Vec::new(alloc);
     for copy in list {
         put_copies(alloc, net, keep, place, copy, &mut out)?;
+        within_limit(net, place.tick, &out)?;
     }
     Ok(out)
 }
@@ -95,15 +165,21 @@ fn settle(
     keep: Keep,
     place: Place,
     copy: NetworkCopy,
-) -> Result<Vec<NetworkCopy>, AllocError>
+) -> Result<Vec<NetworkCopy>, Stop>
     requires sound { IsNet net.now }
     requires node { place.node < length net.now.nodes }
     requires kept { IsKept (live_of keep) net.now copy }
-    ensures { IfOk result (λ v. v.items ≡ kept_settled (live_of keep) net.now place.tick place.node copy) }
+    requires from { Contains (copies_before (live_of keep) (written_of keep) net.now place.tick place.node) copy }
+    ensures ok { IfOk result (λ v. v.items ≡ kept_settled (live_of keep) net.now place.tick place.node copy) }
+    ensures stop { IfErr result (StopsIn keep net.now place.tick) }
 {
-    let turns = left(net.limits.ticks, place.tick, copy.node(place.node).state());
+    let turns = left(
+        net.limits.ticks,
+        place.tick,
+        copy.node(place.node).state(),
+    );
     let mut list = Vec::new(alloc);
-    list.push(copy)?;
+    push(copy, &mut list)?;
     for _turn in 0..turns {
         list = turn(alloc, net, keep, place, list)?;
     }
@@ -117,16 +193,19 @@ fn settle_all(
     keep: Keep,
     place: Place,
     list: Vec<NetworkCopy>,
-) -> Result<Vec<NetworkCopy>, AllocError>
+) -> Result<Vec<NetworkCopy>, Stop>
     requires sound { IsNet net.now }
     requires node { place.node < length net.now.nodes }
     requires kept { AreKept (live_of keep) net.now list.items }
-    ensures { IfOk result (λ v. v.items ≡ flat_map (kept_settled (live_of keep) net.now place.tick place.node) list.items) }
+    requires before { list.items ≡ copies_before (live_of keep) (written_of keep) net.now place.tick place.node }
+    ensures ok { IfOk result (λ v. v.items ≡ flat_map (kept_settled (live_of keep) net.now place.tick place.node) list.items) }
+    ensures stop { IfErr result (StopsIn keep net.now place.tick) }
 {
     let mut out = Vec::new(alloc);
     for copy in list {
-        let mut settled = settle(alloc, net, keep, place, copy)?;
-        out.append(&mut settled)?;
+        let settled = settle(alloc, net, keep, place, copy)?;
+        append(settled, &mut out)?;
+        within_limit(net, place.tick, &out)?;
     }
     Ok(out)
 }
@@ -138,10 +217,12 @@ fn run_tick(
     keep: Keep,
     tick: u32,
     list: Vec<NetworkCopy>,
-) -> Result<Vec<NetworkCopy>, AllocError>
+) -> Result<Vec<NetworkCopy>, Stop>
     requires sound { IsNet net.now }
     requires kept { AreKept (live_of keep) net.now list.items }
-    ensures { IfOk result (λ v. v.items ≡ run_nodes (live_of keep) (written_of keep) net.now tick (length net.now.nodes) list.items) }
+    requires held { list.items ≡ held_at (live_of keep) (written_of keep) net.now tick }
+    ensures ok { IfOk result (λ v. v.items ≡ run_nodes (live_of keep) (written_of keep) net.now tick (length net.now.nodes) list.items) }
+    ensures stop { IfErr result (StopsIn keep net.now tick) }
 {
     let mut list = list;
     for node in 0..node_count(net) {
@@ -175,13 +256,14 @@ fn copies_at(
     net: &Net,
     keep: Keep,
     tick: u32,
-) -> Result<Vec<NetworkCopy>, AllocError>
+) -> Result<Vec<NetworkCopy>, Stop>
     requires sound { IsNet net.now }
     requires bare { IsBare net.now }
-    ensures { IfOk result (λ v. v.items ≡ held_at (live_of keep) (written_of keep) net.now tick) }
+    ensures ok { IfOk result (λ v. v.items ≡ held_at (live_of keep) (written_of keep) net.now tick) }
+    ensures stop { IfErr result (StopsBefore keep net.now tick) }
 {
     let mut list = Vec::new(alloc);
-    list.push(NetworkCopy::opening(alloc, net)?)?;
+    push(NetworkCopy::opening(alloc, net)?, &mut list)?;
     for now in 0..tick {
         let run = run_tick(alloc, net, keep, now, list)?;
         list = shut_tick(alloc, keep, run)?;
@@ -190,10 +272,12 @@ fn copies_at(
 }
 
 /// All scenarios of copying on branch before a tick, in the order of exploration: slow and plain, and nothing is left out.
-pub fn all_copies(alloc: Global, net: &Net, tick: u32) -> Result<Vec<NetworkCopy>, AllocError>
+/// It stops where there are more than the network's limits allow, also where what is too many is impossible.
+pub fn all_copies(alloc: Global, net: &Net, tick: u32) -> Result<Vec<NetworkCopy>, Stop>
     requires sound { IsNet net.now }
     requires bare { IsBare net.now }
-    ensures { IfOk result (λ v. v.items ≡ map seen_in (cob terms net.now tick)) }
+    ensures all { IfOk result (λ v. v.items ≡ map seen_in (cob terms net.now tick)) }
+    ensures stop { IfErr result (StopsBefore Keep.All net.now tick) }
 {
     let copies = copies_at(alloc, net, Keep::All, tick)?;
     Ok(copies)
@@ -212,12 +296,14 @@ fn scenarios_of(alloc: Global, copies: Vec<NetworkCopy>) -> Result<Vec<Scenario>
 
 /// The scenarios of copying on branch at the network's last tick, each once, but for those in which a node's own
 /// condition is impossible: no inputs lead there. Own conditions are written without what says nothing new. The
-/// scenarios come in the order of exploration.
-pub fn explore(alloc: Global, net: &Net) -> Result<Vec<Scenario>, AllocError>
+/// scenarios come in the order of exploration. It stops where a limit of the network is passed.
+pub fn explore(alloc: Global, net: &Net) -> Result<Vec<Scenario>, Stop>
     requires sound { IsNet net.now }
     requires bare { IsBare net.now }
+    requires valid { AllByRecursion IsValid net.now.programs }
     ensures whole { IfOk result (λ v. AreLong (length net.now.nodes) v.items) }
     ensures all { IfOk result (λ v. v.items ≡ map states_in (held_at (live_of Keep.Possible) tidied net.now net.now.limits.ticks)) }
+    ensures passed { IfErr result (IsPassed net.now) }
 {
     let copies = copies_at(alloc, net, Keep::Possible, net.limits.ticks)?;
     let scenarios = scenarios_of(alloc, copies)?;

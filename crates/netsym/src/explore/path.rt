@@ -1,6 +1,6 @@
 //! All ways through an event.
 
-ghost use Rattle.std.specs.Prelude.{◌≡◌, ◌+◌, ◌-◌, ◌<◌, ◌≤◌, ◌^◌, ◌++◌, [], ◌∷◌, map, filter, length, true, Some, IfOk, OnOk};
+ghost use Rattle.std.specs.Prelude.{◌≡◌, ◌+◌, ◌-◌, ◌<◌, ◌≤◌, ◌^◌, ◌++◌, [], ◌∷◌, map, filter, length, true, Some, IfOk, IsErrOf, OnOk};
 ghost use Rattle.kn_model.specs.Terms.{terms};
 ghost use Rattle.kn_model.specs.Due.{due};
 ghost use Rattle.kn_model.specs.Laws.{IsNet};
@@ -10,12 +10,14 @@ ghost use Rattle.netsym.specs.Events.{event_of, handler_of};
 ghost use Rattle.netsym.specs.Deciding.{live_of, lives};
 ghost use Rattle.netsym.specs.Running.{here_of, IsIn};
 ghost use Rattle.netsym.specs.Keeping.{path_lives};
+ghost use Rattle.netsym.specs.Fronts.{IsLongFront};
 
 use crate::explore::event::{Event, begin};
 use crate::explore::here::{Spot, links_of};
 use crate::explore::mail::Mail;
 use crate::explore::state::{FailKind, NodeState};
 use crate::explore::step::{Stepped, fail, step};
+use crate::explore::stop::EventStop;
 use crate::explore::value::{Decision, Keep};
 use crate::explore::way::WaySoFar;
 use crate::plan::program_of;
@@ -48,7 +50,28 @@ impl Model for PathTaken {
     ghost view = { λ p. record { bits = p.bits; literals = map literal_of p.literals.items; state = p.state; sends = p.sends.items } };
 }
 
-/// Appends the paths of a way that pass, with so many instructions left.
+/// Appends a path.
+fn push(path: PathTaken, out: &mut Vec<PathTaken>) -> Result<(), AllocError>
+    ensures { OnOk result (out.new.items ≡ out.old.items ++ (path ∷ [])) }
+{
+    out.push(path)?;
+    Ok(())
+}
+
+/// Appends a path. TooMany: there are then more than the network's limit of states.
+fn put(net: &Net, path: PathTaken, out: &mut Vec<PathTaken>) -> Result<(), EventStop>
+    ensures ok { OnOk result (out.new.items ≡ out.old.items ++ (path ∷ [])) }
+    ensures many { IsErrOf result EventStop.TooMany → (out.new.items ≡ out.old.items ++ (path ∷ [])) × (net.now.limits.states < length out.new.items) }
+{
+    push(path, out)?;
+    if out.len() > net.limits.states {
+        return Err(EventStop::TooMany);
+    }
+    Ok(())
+}
+
+/// Appends the paths of a way that pass, with so many instructions left. TooMany: there are then more than the network's
+/// limit of states, and more may follow.
 #[cycle(ways)]
 fn run(
     net: &Net,
@@ -57,27 +80,23 @@ fn run(
     fuel: u32,
     way: WaySoFar,
     out: &mut Vec<PathTaken>,
-) -> Result<(), AllocError>
+) -> Result<(), EventStop>
     requires spot { IsIn net.now spot.now }
     requires lives { lives (live_of keep) way ≡ true }
-    ensures { OnOk result (out.new.items ≡ out.old.items ++ map (path_of terms) (filter (lives (live_of keep)) (ways terms (here_of net.now spot.now) fuel way))) }
+    ensures ok { OnOk result (out.new.items ≡ out.old.items ++ map (path_of terms) (filter (lives (live_of keep)) (ways terms (here_of net.now spot.now) fuel way))) }
+    ensures many { IsErrOf result EventStop.TooMany → IsLongFront net.now.limits.states out.new.items (out.old.items ++ map (path_of terms) (filter (lives (live_of keep)) (ways terms (here_of net.now spot.now) fuel way))) }
 {
     let mut way = way;
     if !way.state().is_running() {
-        out.push(way.finish()?)?;
-        return Ok(());
+        return put(net, way.finish()?, out);
     }
     if fuel == 0 {
         fail(spot.tick, FailKind::Fuel, &mut way);
-        out.push(way.finish()?)?;
-        return Ok(());
+        return put(net, way.finish()?, out);
     }
     match step(net, spot, way)? {
         Stepped::Goes(next) => run(net, keep, spot, fuel - 1, next, out),
-        Stepped::Stops(last) => {
-            out.push(last.finish()?)?;
-            Ok(())
-        }
+        Stepped::Stops(last) => put(net, last.finish()?, out),
         Stepped::Decides(decision, stays, turns) => {
             follow(net, keep, spot, fuel - 1, false, decision, stays, out)?;
             follow(net, keep, spot, fuel - 1, true, decision.negated(), turns, out)
@@ -85,7 +104,7 @@ fn run(
     }
 }
 
-/// Appends the paths of a way after a decision, none where its conditions do not pass.
+/// Appends the paths of a way after a decision, none where its conditions do not pass. TooMany as for `run`.
 #[cycle(ways)]
 fn follow(
     net: &Net,
@@ -96,10 +115,11 @@ fn follow(
     decision: Decision,
     way: WaySoFar,
     out: &mut Vec<PathTaken>,
-) -> Result<(), AllocError>
+) -> Result<(), EventStop>
     requires spot { IsIn net.now spot.now }
     requires lives { lives (live_of keep) way ≡ true }
-    ensures { OnOk result (out.new.items ≡ out.old.items ++ map (path_of terms) (filter (lives (live_of keep)) (ways terms (here_of net.now spot.now) fuel (decided terms bit (literal_of decision) way)))) }
+    ensures ok { OnOk result (out.new.items ≡ out.old.items ++ map (path_of terms) (filter (lives (live_of keep)) (ways terms (here_of net.now spot.now) fuel (decided terms bit (literal_of decision) way)))) }
+    ensures many { IsErrOf result EventStop.TooMany → IsLongFront net.now.limits.states out.new.items (out.old.items ++ map (path_of terms) (filter (lives (live_of keep)) (ways terms (here_of net.now spot.now) fuel (decided terms bit (literal_of decision) way)))) }
 {
     if !way.admits(keep, decision) {
         return Ok(());
@@ -109,7 +129,8 @@ fn follow(
     run(net, keep, spot, fuel, way, out)
 }
 
-/// The paths of a way that pass, from a handler's entry on; the way itself where the handler is absent.
+/// The paths of a way that pass, from a handler's entry on; the way itself where the handler is absent. TooMany: there are
+/// more than the network's limit of states.
 fn handle(
     alloc: Global,
     net: &Net,
@@ -117,14 +138,15 @@ fn handle(
     spot: &Spot,
     entry: Option<u16>,
     way: WaySoFar,
-) -> Result<Vec<PathTaken>, AllocError>
+) -> Result<Vec<PathTaken>, EventStop>
     requires spot { IsIn net.now spot.now }
     requires lives { lives (live_of keep) way ≡ true }
-    ensures { IfOk result (λ v. v.items ≡ map (path_of terms) (filter (lives (live_of keep)) (runs_from terms (here_of net.now spot.now) entry way))) }
+    ensures ok { IfOk result (λ v. v.items ≡ map (path_of terms) (filter (lives (live_of keep)) (runs_from terms (here_of net.now spot.now) entry way))) }
+    ensures many { IsErrOf result EventStop.TooMany → net.now.limits.states < length (map (path_of terms) (filter (lives (live_of keep)) (runs_from terms (here_of net.now spot.now) entry way))) }
 {
     let mut out = Vec::new(alloc);
     let Some(entry) = entry else {
-        out.push(way.finish()?)?;
+        push(way.finish()?, &mut out)?;
         return Ok(out);
     };
     let mut way = way;
@@ -133,7 +155,7 @@ fn handle(
     Ok(out)
 }
 
-/// The paths of a node's due event that pass.
+/// The paths of a node's due event that pass. TooMany: there are more than the network's limit of states.
 pub fn event_paths(
     alloc: Global,
     net: &Net,
@@ -142,14 +164,15 @@ pub fn event_paths(
     tick: u32,
     event: Event,
     state: &NodeState,
-) -> Result<Vec<PathTaken>, AllocError>
+) -> Result<Vec<PathTaken>, EventStop>
     requires sound { IsNet net.now }
     requires node { node < length net.now.nodes }
     requires early { tick < net.now.limits.ticks }
     requires due { due net.now.limits.ticks tick state.now ≡ Some (event_of event) }
     requires low { handler_of event < 10 }
     requires lives { live_of keep state.now.own ≡ true }
-    ensures { IfOk result (λ v. v.items ≡ filter (path_lives (live_of keep)) (event_paths terms net.now node tick (event_of event) state.now)) }
+    ensures ok { IfOk result (λ v. v.items ≡ filter (path_lives (live_of keep)) (event_paths terms net.now node tick (event_of event) state.now)) }
+    ensures many { IsErrOf result EventStop.TooMany → net.now.limits.states < length (filter (path_lives (live_of keep)) (event_paths terms net.now node tick (event_of event) state.now)) }
 {
     net.bounds();
     let _bare = state.is_booted();

@@ -18,3 +18,12 @@ pub enum Stop {
     #[error("a limit was passed")]
     Limit { kind: LimitKind, tick: u32 },
 }
+
+/// Why an event gives no paths: memory ran out, or more paths pass than the network's limit of states.
+#[derive(Debug, Drop, Error)]
+pub enum EventStop {
+    #[error("out of memory")]
+    Memory(#[from] AllocError),
+    #[error("too many paths")]
+    TooMany,
+}
