@@ -73,6 +73,12 @@ pub ways_ended : (here : Here Term) (fuel : ℕ) (w : Way Term) → is_running w
 ways_ended here zero w ended = ap (λ (b : Bool). goes_by b (λ v. rows.failed terms here Fuel v ∷ []) (one_way terms) w) ended
 ways_ended here (suc k) w ended = ap (λ (b : Bool). goes_by b (λ v. after terms (effect_at terms here v) (ways terms here k)) (one_way terms) w) ended
 
+-- a way whose instructions are spent fails
+pub ways_spent : (here : Here Term) (fuel : ℕ) (w : Way Term) → fuel ≡ 0 → is_running w.state.outcome ≡ true → ways terms here fuel w ≡ rows.failed terms here Fuel w ∷ []
+ways_spent here fuel w spent running =
+    ap (λ (n : ℕ). ways terms here n w) spent
+    ∙ ap (λ (b : Bool). goes_by b (λ v. rows.failed terms here Fuel v ∷ []) (one_way terms) w) running
+
 module _ (live : Condition → Bool) where
   -- a step leaves a way passing
   abbrev pub EachLives : Stepped → Type 0

@@ -12,10 +12,12 @@ pub mod Kept
 pub mod KeptStates
 pub mod Passing
 pub mod Openings
+pub mod Fronts
 pub mod Fitting
 pub mod DueEvents
 pub mod Held
 pub mod Copies
+pub mod Stopping
 pub mod Tidied
 pub mod TidiedTests
 pub mod Walking

@@ -28,4 +28,5 @@ StopsIn keep net t (stops.Limit kinds.Dstates tick) = (tick ≡ t) × HasManyCop
 
 -- the same in some tick before one
 abbrev pub StopsBefore : Keep → Network → ℕ → Stop → Type 0
-StopsBefore keep net end stop = (t : ℕ) × (t < end) × StopsIn keep net t stop
+StopsBefore keep net end (stops.Memory e) = Unit {0}
+StopsBefore keep net end (stops.Limit kind tick) = (tick < end) × StopsIn keep net tick (stops.Limit kind tick)

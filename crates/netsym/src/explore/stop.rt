@@ -1,5 +1,9 @@
 //! Why an exploration stops.
 
+ghost use Rattle.std.specs.Prelude.{◌≡◌};
+ghost use Rattle.netsym.specs.declared.explore.stop.Stop.TheVariants as stops;
+ghost use Rattle.netsym.specs.declared.explore.stop.EventStop.TheVariants as event_stops;
+
 use std::alloc::AllocError;
 use thiserror::Error;
 
@@ -14,7 +18,7 @@ pub enum LimitKind {
 #[derive(Debug, Drop, Error)]
 pub enum Stop {
     #[error("out of memory")]
-    Memory(#[from] AllocError),
+    Memory(AllocError),
     #[error("a limit was passed")]
     Limit { kind: LimitKind, tick: u32 },
 }
@@ -23,7 +27,25 @@ pub enum Stop {
 #[derive(Debug, Drop, Error)]
 pub enum EventStop {
     #[error("out of memory")]
-    Memory(#[from] AllocError),
+    Memory(AllocError),
     #[error("too many paths")]
     TooMany,
+}
+
+impl From<AllocError> for Stop {
+    ghost from_gives = { λ e s. s ≡ stops.Memory e };
+
+    /// Want of memory.
+    fn from(error: AllocError) -> Stop {
+        Stop::Memory(error)
+    }
+}
+
+impl From<AllocError> for EventStop {
+    ghost from_gives = { λ e s. s ≡ event_stops.Memory e };
+
+    /// Want of memory.
+    fn from(error: AllocError) -> EventStop {
+        EventStop::Memory(error)
+    }
 }

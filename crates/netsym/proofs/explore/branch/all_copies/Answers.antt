@@ -3,5 +3,5 @@ use Rattle.netsym.proofs.Held.{held_same}
 use Rattle.netsym.proofs.KeptStates.{all_falls, all_kept}
 use Rattle.netsym.proofs.explore.branch.all_copies.Goals as goal
 
-pub returns : goal.returns
-returns c = c.in_ok-copies.ensures ∙ held_same (λ c. true) all_falls c.args.net.now c.args.tick c.requires.sound ∙ all_kept c.args.net.now c.args.tick
+pub returns-clause-all : goal.returns-clause-all
+returns-clause-all c = c.in_ok-copies.ensures.ok ∙ held_same (λ c. true) all_falls c.args.net.now c.args.tick c.requires.sound ∙ all_kept c.args.net.now c.args.tick

@@ -12,5 +12,5 @@ loop-turn-preserved c =
     let node = c.args.place.node in
     let tick = c.args.place.tick in
     let made : c.in_ok-list.list.items ≡ kept_turns live net node tick (c.loop-turn._turn + 1) c.args.copy =
-    one_turn live net node tick c.loop-turn._turn c.args.copy c.loop-turn.list.items c.in_ok-list.list.items c.loop-turn.invariant.made c.in_ok-list.ensures in
+    one_turn live net node tick c.loop-turn._turn c.args.copy c.loop-turn.list.items c.in_ok-list.list.items c.loop-turn.invariant.made c.in_ok-list.ensures.ok in
     record { made = made; kept = subst (AreKept live net) (sym made) (turns_kept live net node tick (c.loop-turn._turn + 1) c.args.copy c.requires.node c.requires.kept) }
