@@ -1,6 +1,8 @@
 //! Copying the whole network at every branch.
 
-ghost use Rattle.std.specs.Prelude.{◌≡◌, ◌+◌, ◌++◌, ◌<◌, ◌≤◌, map, flat_map, length, IfOk, OnOk};
+ghost use Rattle.std.specs.Prelude.{◌≡◌, ◌+◌, ◌++◌, ◌<◌, ◌≤◌, map, flat_map, length, IfOk, IfErr, OnOk};
+ghost use Rattle.std.specs.List.{AllByRecursion};
+ghost use Rattle.kn_code.specs.Code.{IsValid};
 ghost use Rattle.kn_model.specs.Laws.{IsNet};
 ghost use Rattle.kn_model.specs.Scenarios.{cob};
 ghost use Rattle.kn_model.specs.Terms.{terms};
@@ -10,11 +12,13 @@ ghost use Rattle.netsym.specs.Writing.{written_of};
 ghost use Rattle.netsym.specs.Plain.{AreLong};
 ghost use Rattle.netsym.specs.Keeping.{IsKept, AreKept, seen_in, kept_copies, kept_settled, copied_along, states_in};
 ghost use Rattle.netsym.specs.Holding.{run_nodes, shut_all, held_at, tidied};
+ghost use Rattle.netsym.specs.Stopping.{IsPassed};
 
 use crate::explore::copies::NetworkCopy;
 use crate::explore::event::{due, left};
 use crate::explore::path::{PathTaken, event_paths};
 use crate::explore::scenario::Scenario;
+use crate::explore::stop::Stop;
 use crate::explore::value::Keep;
 use crate::plan::node_count;
 use kn_plan::Net;
@@ -213,11 +217,13 @@ fn scenarios_of(alloc: Global, copies: Vec<NetworkCopy>) -> Result<Vec<Scenario>
 /// The scenarios of copying on branch at the network's last tick, each once, but for those in which a node's own
 /// condition is impossible: no inputs lead there. Own conditions are written without what says nothing new. The
 /// scenarios come in the order of exploration.
-pub fn explore(alloc: Global, net: &Net) -> Result<Vec<Scenario>, AllocError>
+pub fn explore(alloc: Global, net: &Net) -> Result<Vec<Scenario>, Stop>
     requires sound { IsNet net.now }
     requires bare { IsBare net.now }
+    requires valid { AllByRecursion IsValid net.now.programs }
     ensures whole { IfOk result (λ v. AreLong (length net.now.nodes) v.items) }
     ensures all { IfOk result (λ v. v.items ≡ map states_in (held_at (live_of Keep.Possible) tidied net.now net.now.limits.ticks)) }
+    ensures passed { IfErr result (IsPassed net.now) }
 {
     let copies = copies_at(alloc, net, Keep::Possible, net.limits.ticks)?;
     let scenarios = scenarios_of(alloc, copies)?;
