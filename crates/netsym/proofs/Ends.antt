@@ -1,5 +1,5 @@
 -- How a call of the program ends.
-use Rattle.std.proofs.Common.{◌≡◌, inl, inr, ℕ, zero, suc, ◌+◌, ◌≤◌, ◌<◌, ◌⊎◌, Bool, true, false, cond, List, Option, Some, None, Result, Ok, Err, refl, sym, subst, ◌∙◌, arith}
+use Rattle.std.proofs.Common.{◌≡◌, inl, inr, ℕ, zero, suc, ◌+◌, ◌≤◌, ◌<◌, Bool, true, false, cond, List, Option, Some, None, Result, Ok, Err, refl, sym, subst, ◌∙◌, arith}
 use Rattle.std.specs.Prelude.{OnOk, OnErr, is_ok, IsTrue, ◌↔◌, nat_eq}
 use Rattle.std.specs.Io.KnownBytes.{Appends, Keeps}
 use Rattle.std.proofs.lemmas.Bool.{eqb-true}
@@ -11,7 +11,7 @@ use Rattle.netsym.specs.declared.status.Status.{Status}
 use Rattle.netsym.specs.declared.status.Status.TheVariants as statuses
 use Rattle.netsym.specs.Texts.{reached_in}
 use Rattle.netsym.specs.Form.{IsFile}
-use Rattle.netsym.specs.Runs.{IsCommand, IsRight, IsWritten, IsReportOn, IsTold, IsLimited, IsEither, Reads, Answers, limit, limit_line, not_form_line}
+use Rattle.netsym.specs.Runs.{IsCommand, IsRight, IsWritten, IsReportOn, IsTold, IsEither, Reads, Answers, limit, limit_line, not_form_line}
 
 pub written_by : {T E : Type 0} (taken taken' : Option (List ℕ)) (text : List ℕ) (verdict status : Status) (r : Result T E) → status ≡ cond (is_ok r) verdict statuses.WriteFault
     → OnOk r (Appends taken taken' text) → OnErr r ((rest : List ℕ) × TakesFront taken taken' text rest) → IsWritten taken taken' text verdict status
@@ -50,8 +50,9 @@ told_answers bytes net status text form told = subst (λ (s : Status). Answers b
     go false e = (told.report, on, some (reached_in told.report) e)
 
 -- a limit that is passed, and the line that names it
-pub is_limited : (net : Network) (kind : Limit) (tick : ℕ) (text : List ℕ) → (tick < net.limits.ticks) × IsOverCopied net tick kind → text ≡ limit_line kind tick → IsLimited net text
-is_limited net kind tick text over is = record { passes = record { kind = kind; tick = tick; early = over.0; over = over.1 }; text_is = is }
+pub limited_either : (net : Network) (kind : Limit) (tick : ℕ) (status : Status) (text : List ℕ) → (tick < net.limits.ticks) × IsOverCopied net tick kind → status ≡ statuses.Limit → text ≡ limit_line kind tick → IsEither net status text
+limited_either net kind tick status text over limited is =
+    inr (limited, record { passes = record { kind = kind; tick = tick; early = over.0; over = over.1 }; text_is = is })
 
 -- the answer on the network of the file
 pub either_answers : (bytes : List ℕ) (net : Network) (status : Status) (text : List ℕ) → IsFile bytes net → IsEither net status text → Answers bytes status text

@@ -33,8 +33,10 @@ pub fn report_of_net(alloc: Global, net: &Net) -> Result<Report, Stop>
 {
     let mut scenarios = explore(alloc, net)?;
     sort_by_name(node_count(net), &mut scenarios);
-    let report = report_from(alloc, net, &scenarios)?;
-    Ok(report)
+    match report_from(alloc, net, &scenarios) {
+        Ok(report) => Ok(report),
+        Err(error) => Err(Stop::Memory(error)),
+    }
 }
 
 /// A status, and the lines that go with it.

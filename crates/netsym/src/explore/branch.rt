@@ -225,7 +225,12 @@ pub fn explore(alloc: Global, net: &Net) -> Result<Vec<Scenario>, Stop>
     ensures all { IfOk result (λ v. v.items ≡ map states_in (held_at (live_of Keep.Possible) tidied net.now net.now.limits.ticks)) }
     ensures passed { IfErr result (IsPassed net.now) }
 {
-    let copies = copies_at(alloc, net, Keep::Possible, net.limits.ticks)?;
-    let scenarios = scenarios_of(alloc, copies)?;
-    Ok(scenarios)
+    let copies = match copies_at(alloc, net, Keep::Possible, net.limits.ticks) {
+        Ok(copies) => copies,
+        Err(error) => return Err(Stop::Memory(error)),
+    };
+    match scenarios_of(alloc, copies) {
+        Ok(scenarios) => Ok(scenarios),
+        Err(error) => Err(Stop::Memory(error)),
+    }
 }
