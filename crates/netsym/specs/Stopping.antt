@@ -1,5 +1,5 @@
 -- What the limits of the program are in the definitions, and when an exploration stops.
-use Rattle.std.specs.Prelude.{◌<◌}
+use Rattle.std.specs.Prelude.{◌≡◌, ℕ, ◌<◌}
 use Rattle.kn_model.specs.Nets.{Network}
 use Rattle.kn_model.specs.Limits.{Limit, States as states, Dstates as dstates, IsOverCopied}
 use Rattle.netsym.specs.declared.explore.stop.LimitKind.{LimitKind}
