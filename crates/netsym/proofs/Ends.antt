@@ -1,16 +1,17 @@
 -- How a call of the program ends.
-use Rattle.std.proofs.Common.{◌≡◌, inl, inr, ℕ, zero, suc, ◌+◌, ◌≤◌, Bool, true, false, cond, List, Option, Some, None, Result, Ok, Err, refl, sym, subst, ◌∙◌, arith}
+use Rattle.std.proofs.Common.{◌≡◌, inl, inr, ℕ, zero, suc, ◌+◌, ◌≤◌, ◌<◌, Bool, true, false, cond, List, Option, Some, None, Result, Ok, Err, refl, sym, subst, ◌∙◌, arith}
 use Rattle.std.specs.Prelude.{OnOk, OnErr, is_ok, IsTrue, ◌↔◌, nat_eq}
 use Rattle.std.specs.Io.KnownBytes.{Appends, Keeps}
 use Rattle.std.proofs.lemmas.Bool.{eqb-true}
 use Rattle.kn_io.specs.Reading.{TakesAtMost}
 use Rattle.kn_io.specs.Writing.{TakesFront}
 use Rattle.kn_model.specs.Nets.{Network}
+use Rattle.kn_model.specs.Limits.{Limit, IsOverCopied}
 use Rattle.netsym.specs.declared.status.Status.{Status}
 use Rattle.netsym.specs.declared.status.Status.TheVariants as statuses
 use Rattle.netsym.specs.Texts.{reached_in}
 use Rattle.netsym.specs.Form.{IsFile}
-use Rattle.netsym.specs.Runs.{IsCommand, IsRight, IsWritten, IsReportOn, IsTold, Reads, Answers, limit, not_form_line}
+use Rattle.netsym.specs.Runs.{IsCommand, IsRight, IsWritten, IsReportOn, IsTold, IsEither, Reads, Answers, limit, limit_line, not_form_line}
 
 pub written_by : {T E : Type 0} (taken taken' : Option (List ℕ)) (text : List ℕ) (verdict status : Status) (r : Result T E) → status ≡ cond (is_ok r) verdict statuses.WriteFault
     → OnOk r (Appends taken taken' text) → OnErr r ((rest : List ℕ) × TakesFront taken taken' text rest) → IsWritten taken taken' text verdict status
@@ -34,8 +35,8 @@ taken_whole left left' bytes reads = (bytes, reads.all, (let fits = reads.fits i
 pub refused_answers : (bytes : List ℕ) (status : Status) (text : List ℕ) → status ≡ statuses.Refused → ((net : Network) → IsFile bytes net → ⊥) → text ≡ not_form_line → Answers bytes status text
 refused_answers bytes status text is none text-is = subst (λ (s : Status). Answers bytes s text) (sym is) (none, text-is)
 
--- the answer on the network of the file
-pub told_answers : (bytes : List ℕ) (net : Network) (status : Status) (text : List ℕ) → IsFile bytes net → IsTold net status text → Answers bytes status text
+-- the report on the network of the file
+told_answers : (bytes : List ℕ) (net : Network) (status : Status) (text : List ℕ) → IsFile bytes net → IsTold net status text → Answers bytes status text
 told_answers bytes net status text form told = subst (λ (s : Status). Answers bytes s text) (sym told.status_is) (go (nat_eq (reached_in told.report) 0) refl)
   where
     on : IsReportOn bytes text told.report
@@ -48,6 +49,16 @@ told_answers bytes net status text form told = subst (λ (s : Status). Answers b
     go true e = (told.report, on, eqb-true (reached_in told.report) 0 e)
     go false e = (told.report, on, some (reached_in told.report) e)
 
+-- a limit that is passed, and the line that names it
+pub limited_either : (net : Network) (kind : Limit) (tick : ℕ) (status : Status) (text : List ℕ) → (tick < net.limits.ticks) × IsOverCopied net tick kind → status ≡ statuses.Limit → text ≡ limit_line kind tick → IsEither net status text
+limited_either net kind tick status text over limited is =
+    inr (limited, record { passes = record { kind = kind; tick = tick; early = over.0; over = over.1 }; text_is = is })
+
+-- the answer on the network of the file
+pub either_answers : (bytes : List ℕ) (net : Network) (status : Status) (text : List ℕ) → IsFile bytes net → IsEither net status text → Answers bytes status text
+either_answers bytes net status text form (inl told) = told_answers bytes net status text form told
+either_answers bytes net status text form (inr large) = subst (λ (s : Status). Answers bytes s text) (sym large.0) (net, form, large.1)
+
 -- what is right for the bytes is right for the source that had them
 pub right_by : (words : List (List ℕ)) (left left' : Option (List ℕ)) (bytes : List ℕ) (status : Status) (text : List ℕ) → IsCommand words → Reads left left' bytes → Answers bytes status text → IsRight words left left' status text
 right_by words left left' bytes statuses.Clean text command reads h = (command, bytes, reads, h)
@@ -57,6 +68,7 @@ right_by words left left' bytes statuses.Usage text command reads h = absurd h
 right_by words left left' bytes statuses.ReadFault text command reads h = absurd h
 right_by words left left' bytes statuses.WriteFault text command reads h = absurd h
 right_by words left left' bytes statuses.Memory text command reads h = absurd h
+right_by words left left' bytes statuses.Limit text command reads h = (command, bytes, reads, h)
 
 -- an answer on a file is no read fault
 pub answer_is_no_fault : {P : Type 0} (bytes : List ℕ) (status : Status) (text : List ℕ) → status ≡ statuses.ReadFault → Answers bytes status text → P

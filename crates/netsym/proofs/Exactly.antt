@@ -6,8 +6,9 @@ use Rattle.kn_model.specs.Nets.{Network}
 use Rattle.netsym.specs.declared.status.Status.{Status}
 use Rattle.netsym.specs.declared.status.Status.TheVariants as statuses
 use Rattle.netsym.specs.Form.{IsFile}
-use Rattle.netsym.specs.Runs.{IsCommand, IsRight, Reads, Runs, limit}
-use Rattle.netsym.specs.Exact.{EndsAs, IsUsage, IsHindered, IsPrinted, IsDescribed, IsExact}
+use Rattle.netsym.specs.Runs.{IsCommand, IsRight, PassesLimit, Reads, Runs, limit}
+use Rattle.netsym.specs.Exact.{EndsAs, IsUsage, IsHindered, IsPrinted, IsDescribed, IsTooLarge, IsExact}
+use Rattle.netsym.proofs.FormFiles.{one_network}
 
 -- what was read to the end of a source that holds these bytes is these bytes
 read_is : (left' : Option (List ℕ)) (bytes read : List ℕ) → Consumes (Some bytes) left' read → IsAtEnd left' → read ≡ bytes
@@ -36,6 +37,7 @@ usage_exactly words left left' faults faults' taken taken' status run = record {
     only_usage statuses.ReadFault text none r = absurd (none r.0)
     only_usage statuses.WriteFault text none r = absurd r
     only_usage statuses.Memory text none r = absurd (none r.0)
+    only_usage statuses.Limit text none r = absurd (none r.0)
 
 module _ (words : List (List ℕ)) (left left' : Option (List ℕ)) (faults faults' : ℕ) (taken taken' : Option (List ℕ)) (status : Status) (run : Runs words left left' faults faults' taken taken' status) (bytes : List ℕ) (holds : left ≡ Some bytes) (command : IsCommand words) where
   described_by : (read : List ℕ) → Reads left left' read → (net : Network) → IsFile read net → IsDescribed bytes
@@ -52,6 +54,18 @@ module _ (words : List (List ℕ)) (left left' : Option (List ℕ)) (faults faul
   verdict_printed statuses.ReadFault text r p = absurd p
   verdict_printed statuses.WriteFault text r p = absurd p
   verdict_printed statuses.Memory text r p = absurd p
+  verdict_printed statuses.Limit text r p = absurd p
+
+  -- a limit is passed by what the bytes describe
+  verdict_limited : (text : List ℕ) → IsRight words left left' statuses.Limit text → IsTooLarge bytes
+  verdict_limited text r =
+      let same = read_is left' bytes r.1 (subst (λ (l : Option (List ℕ)). Consumes l left' r.1) holds r.2.all) r.2.end in
+      record {
+        fits = subst (λ (l : List ℕ). length l ≤ limit) same r.2.fits;
+        net = r.3.0;
+        form = subst (λ (l : List ℕ). IsFile l r.3.0) same r.3.1;
+        passes = r.3.2.passes;
+      }
 
   -- refused bytes describe nothing
   verdict_refused : (text : List ℕ) → IsRight words left left' statuses.Refused text → IsDescribed bytes → ⊥
@@ -67,14 +81,15 @@ module _ (words : List (List ℕ)) (left left' : Option (List ℕ)) (faults faul
             read.2.0 described.1 (subst (λ (l : List ℕ). IsFile l described.1) (sym same) described.2)
       ]
 
-  verdict_prints : (v : Status) (text : List ℕ) → IsRight words left left' v text → IsDescribed bytes → IsPrinted v ⊎ IsHindered v
+  verdict_prints : (v : Status) (text : List ℕ) → IsRight words left left' v text → IsDescribed bytes → IsPrinted v ⊎ ((v ≡ statuses.Limit) ⊎ IsHindered v)
   verdict_prints statuses.Clean text r d = inl tt
   verdict_prints statuses.Found text r d = inl tt
   verdict_prints statuses.Usage text r d = absurd (r.0 command)
   verdict_prints statuses.Refused text r d = absurd (verdict_refused text r d)
-  verdict_prints statuses.ReadFault text r d = inr tt
+  verdict_prints statuses.ReadFault text r d = inr (inr tt)
   verdict_prints statuses.WriteFault text r d = absurd r
-  verdict_prints statuses.Memory text r d = inr tt
+  verdict_prints statuses.Memory text r d = inr (inr tt)
+  verdict_prints statuses.Limit text r d = inr (inl refl)
 
   verdict_refuses : (v : Status) (text : List ℕ) → IsRight words left left' v text → (IsDescribed bytes → ⊥) → (v ≡ statuses.Refused) ⊎ IsHindered v
   verdict_refuses statuses.Clean text r none = absurd (none (verdict_printed statuses.Clean text r tt))
@@ -84,6 +99,25 @@ module _ (words : List (List ℕ)) (left left' : Option (List ℕ)) (faults faul
   verdict_refuses statuses.ReadFault text r none = inr tt
   verdict_refuses statuses.WriteFault text r none = absurd r
   verdict_refuses statuses.Memory text r none = inr tt
+  verdict_refuses statuses.Limit text r none = absurd (none (let large = verdict_limited text r in (large.fits, large.net, large.form)))
+
+  -- a limit is answered only where one is passed
+  limit_answered : status ≡ statuses.Limit → IsTooLarge bytes
+  limit_answered is = elim run.written [
+    | inl h ↦ verdict_limited run.text (subst (λ (v : Status). IsRight words left left' v run.text) (sym h.0 ∙ is) run.right)
+    | inr h ↦ absurd (let wrong : statuses.WriteFault ≡ statuses.Limit = sym h.0 ∙ is in cc)
+  ]
+
+  report_or_limit : IsDescribed bytes → IsPrinted status ⊎ ((status ≡ statuses.Limit) ⊎ IsHindered status)
+  report_or_limit d = status_is (λ s. IsPrinted s ⊎ ((s ≡ statuses.Limit) ⊎ IsHindered s)) words left left' faults faults' taken taken' status run (verdict_prints run.verdict run.text run.right d) (inr (inr tt))
+
+  -- where the network that is described passes no limit, none is answered
+  within : (net : Network) → IsFile bytes net → (PassesLimit net → ⊥) → IsPrinted status ⊎ ((status ≡ statuses.Limit) ⊎ IsHindered status) → IsPrinted status ⊎ IsHindered status
+  within net form none (inl p) = inl p
+  within net form none (inr (inr h)) = inr h
+  within net form none (inr (inl is)) =
+      let large = limit_answered is in
+      absurd (none (subst PassesLimit (one_network bytes large.net net large.form form) large.passes))
 
   pub exact_by : IsExact bytes status
   exact_by = record {
@@ -95,6 +129,8 @@ module _ (words : List (List ℕ)) (left left' : Option (List ℕ)) (faults faul
       | inl h ↦ verdict_printed run.verdict run.text run.right (subst IsPrinted h.0 p)
       | inr h ↦ absurd (subst IsPrinted h.0 p)
     ];
+    limited = limit_answered;
     refuses = λ none. status_is (λ s. (s ≡ statuses.Refused) ⊎ IsHindered s) words left left' faults faults' taken taken' status run (verdict_refuses run.verdict run.text run.right none) (inr tt);
-    prints = λ d. status_is (λ s. IsPrinted s ⊎ IsHindered s) words left left' faults faults' taken taken' status run (verdict_prints run.verdict run.text run.right d) (inr tt);
+    prints = report_or_limit;
+    prints_within = λ fits net form none. within net form none (report_or_limit (fits, net, form));
   }

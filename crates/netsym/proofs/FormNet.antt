@@ -3,7 +3,7 @@ use Rattle.std.proofs.Common.{◌≤◌, ℕ, List, [], ◌∷◌, length, map, 
 use Rattle.std.specs.List.{AllByRecursion}
 use Rattle.kn_code.specs.declared.program.Instr.{Instr}
 use Rattle.kn_code.specs.declared.program.Instr.TheVariants.{Timer}
-use Rattle.kn_code.specs.Code.{Code, IsInstr, Stands, AllWithLeft}
+use Rattle.kn_code.specs.Code.{Code, IsInstr, IsValid, Stands, AllWithLeft}
 use Rattle.kn_plan.specs.Nets.{Network, Link}
 use Rattle.kn_plan.specs.Valid.{IsLink}
 use Rattle.kn_model.specs.Laws.{IsNet, SetsLater}
@@ -49,3 +49,15 @@ bare_plans (p ∷ places) = (record { loss = refl; duplicate = refl; reboot = re
 -- its nodes lose and double nothing, and do not reboot
 pub file_is_bare : (bytes : List ℕ) (net : Network) → IsFile bytes net → IsBare net
 file_is_bare bytes net file = subst IsBare (sym file.describes.network) (bare_plans file.describes.places)
+
+programs_valid : (texts : List ProgramText) (programs : List Code) → EachOf IsProgramOf texts programs → AllByRecursion IsValid programs
+programs_valid [] [] h = tt
+programs_valid [] (c ∷ cs) h = absurd h
+programs_valid (t ∷ ts) [] h = tt
+programs_valid (t ∷ ts) (c ∷ cs) h = (h.0.valid, programs_valid ts cs h.1)
+
+-- its programs are valid
+pub file_is_valid : (bytes : List ℕ) (net : Network) → IsFile bytes net → AllByRecursion IsValid net.programs
+file_is_valid bytes net file =
+    let d = file.describes in
+    subst (λ (n : Network). AllByRecursion IsValid n.programs) (sym d.network) (programs_valid file.text.programs d.programs d.are_programs)

@@ -2,7 +2,7 @@
 use Rattle.std.specs.Prelude.{◌≡◌, ◌⊎◌, ◌≤◌, ℕ, List, length}
 use Rattle.kn_model.specs.Nets.{Network}
 use Rattle.netsym.specs.Form.{IsFile}
-use Rattle.netsym.specs.Runs.{IsCommand, limit}
+use Rattle.netsym.specs.Runs.{IsCommand, PassesLimit, limit}
 use Rattle.netsym.specs.declared.status.Status.{Status}
 use Rattle.netsym.specs.declared.status.Status.TheVariants as statuses
 
@@ -31,10 +31,20 @@ IsPrinted other = ⊥
 abbrev pub IsDescribed : List ℕ → Type 0
 IsDescribed bytes = (length bytes ≤ limit) × (net : Network) × IsFile bytes net
 
--- For the words of the command and a source that holds these bytes: the report is printed exactly where they describe a
--- network, and they are refused exactly where they do not, but where a fault or want of memory hinders it.
+-- the bytes describe a network that passes a limit
+pub record IsTooLarge (bytes : List ℕ) : Type 0 where
+  pub fits : length bytes ≤ limit
+  pub net : Network
+  pub form : IsFile bytes net
+  pub passes : PassesLimit net
+
+-- For the words of the command and a source that holds these bytes: they are refused exactly where they describe no
+-- network, but where a fault or want of memory hinders it. Where they describe one, the report is printed but where that
+-- is hindered or a limit is answered; and a limit is answered only where the network passes one.
 pub record IsExact (bytes : List ℕ) (status : Status) : Type 0 where
   pub refused : status ≡ statuses.Refused → IsDescribed bytes → ⊥
   pub printed : IsPrinted status → IsDescribed bytes
+  pub limited : status ≡ statuses.Limit → IsTooLarge bytes
   pub refuses : (IsDescribed bytes → ⊥) → (status ≡ statuses.Refused) ⊎ IsHindered status
-  pub prints : IsDescribed bytes → IsPrinted status ⊎ IsHindered status
+  pub prints : IsDescribed bytes → IsPrinted status ⊎ ((status ≡ statuses.Limit) ⊎ IsHindered status)
+  pub prints_within : length bytes ≤ limit → (net : Network) → IsFile bytes net → (PassesLimit net → ⊥) → IsPrinted status ⊎ IsHindered status

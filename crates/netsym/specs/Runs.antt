@@ -1,5 +1,5 @@
 -- What a call of the program does.
-use Rattle.std.specs.Prelude.{◌≡◌, ◌⊎◌, ◌≤◌, ℕ, ◌+◌, List, [], ◌∷◌, length, map, codes, nat_eq, if◌then◌else◌}
+use Rattle.std.specs.Prelude.{◌≡◌, ◌⊎◌, ◌≤◌, ◌<◌, ℕ, ◌+◌, List, [], ◌∷◌, ◌++◌, length, map, codes, decimal, nat_eq, if◌then◌else◌}
 use Rattle.std.specs.declared.option.Option.{Option}
 use Rattle.std.specs.Io.KnownBytes.{Appends, Consumes, Keeps, IsAtEnd}
 use denote.Ref.{Bor}
@@ -8,6 +8,7 @@ use Rattle.kn_io.specs.Reading.{TakesExactly, TakesAtMost}
 use Rattle.kn_io.specs.Writing.{TakesFront}
 use Rattle.kn_model.specs.Nets.{Network}
 use Rattle.kn_model.specs.Reports.{Report, Cob, Gives}
+use Rattle.kn_model.specs.Limits.{Limit, States, Dstates, IsOverCopied}
 use Rattle.netsym.specs.Texts.{report_text, reached_in}
 use Rattle.netsym.specs.Form.{IsFile}
 use Rattle.netsym.specs.declared.status.Status.{Status}
@@ -61,7 +62,32 @@ read_fault_line = codes "netsym: read fault\n"
 abbrev pub memory_line : List ℕ
 memory_line = codes "netsym: out of memory\n"
 
--- The status and the text that are right for some bytes: no failure is reached, or one is, or no network is described.
+-- what is limited, by its name in the text
+abbrev pub limit_name : Limit → List ℕ
+limit_name States = codes "states"
+limit_name Dstates = codes "dstates"
+
+abbrev pub limit_line : Limit → ℕ → List ℕ
+limit_line kind tick = codes "netsym: limit " ++ (limit_name kind ++ (codes " tick " ++ (decimal tick ++ codes "\n")))
+
+-- in one of its ticks, copying the whole network at every branch passes a limit
+pub record PassesLimit (net : Network) : Type 0 where
+  pub kind : Limit
+  pub tick : ℕ
+  pub early : tick < net.limits.ticks
+  pub over : IsOverCopied net tick kind
+
+-- the text names a limit that the network passes, and the tick
+pub record IsLimited (net : Network) (text : List ℕ) : Type 0 where
+  pub passes : PassesLimit net
+  pub text_is : text ≡ limit_line passes.kind passes.tick
+
+-- what is right on a network: a report, or a limit that it passes
+abbrev pub IsEither : Network → Status → List ℕ → Type 0
+IsEither net status text = IsTold net status text ⊎ ((status ≡ statuses.Limit) × IsLimited net text)
+
+-- The status and the text that are right for some bytes: no failure is reached, or one is, or no network is described, or
+-- the network passes a limit.
 abbrev pub Answers : List ℕ → Status → List ℕ → Type 0
 Answers bytes statuses.Clean text = (r : Report) × IsReportOn bytes text r × (reached_in r ≡ 0)
 Answers bytes statuses.Found text = (r : Report) × IsReportOn bytes text r × (1 ≤ reached_in r)
@@ -70,6 +96,7 @@ Answers bytes statuses.Usage text = ⊥
 Answers bytes statuses.ReadFault text = ⊥
 Answers bytes statuses.WriteFault text = ⊥
 Answers bytes statuses.Memory text = ⊥
+Answers bytes statuses.Limit text = (net : Network) × IsFile bytes net × IsLimited net text
 
 -- The status and the text that are right for the words and for what was read, before anything is written.
 abbrev pub IsRight : List (List ℕ) → Option (List ℕ) → Option (List ℕ) → Status → List ℕ → Type 0
@@ -82,6 +109,7 @@ IsRight words left left' statuses.Refused text = IsCommand words × (
 IsRight words left left' statuses.ReadFault text = IsCommand words × TakesAtMost limit left left' × (text ≡ read_fault_line)
 IsRight words left left' statuses.WriteFault text = ⊥
 IsRight words left left' statuses.Memory text = IsCommand words × TakesAtMost (limit + 1) left left' × (text ≡ memory_line)
+IsRight words left left' statuses.Limit text = IsCommand words × (bytes : List ℕ) × Reads left left' bytes × Answers bytes statuses.Limit text
 
 -- the whole text went out, or a front of it, and then the status is a write fault
 abbrev pub IsWritten : Option (List ℕ) → Option (List ℕ) → List ℕ → Status → Status → Type 0

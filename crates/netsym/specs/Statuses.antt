@@ -11,3 +11,4 @@ code_of statuses.Refused = 3
 code_of statuses.ReadFault = 4
 code_of statuses.WriteFault = 5
 code_of statuses.Memory = 6
+code_of statuses.Limit = 7

@@ -1,14 +1,16 @@
 //! What the program answers to a network file.
 
-ghost use Rattle.std.specs.Prelude.{◌≡◌, ◌≤◌, ℕ, IfOk, string_bytes, nat_eq, if◌then◌else◌};
-ghost use Rattle.std.specs.List.{flat_map};
+ghost use Rattle.std.specs.Prelude.{◌≡◌, ◌≤◌, ℕ, IfOk, IfErr, string_bytes, nat_eq, if◌then◌else◌};
+ghost use Rattle.std.specs.List.{flat_map, AllByRecursion};
+ghost use Rattle.kn_code.specs.Code.{IsValid};
 ghost use Rattle.kn_model.specs.Laws.{IsNet};
 ghost use Rattle.kn_model.specs.Reports.{Cob, Gives};
 ghost use Rattle.netsym.specs.Plans.{IsBare};
-ghost use Rattle.netsym.specs.Texts.{reached_in};
-ghost use Rattle.netsym.specs.Runs.{Answers, IsTold, not_form_line};
+ghost use Rattle.netsym.specs.Stopping.{limit_of, IsPassed};
+ghost use Rattle.netsym.specs.Texts.{reached_in, report_text};
+ghost use Rattle.netsym.specs.Runs.{Answers, IsEither, IsTold, limit_line, not_form_line};
 
-use crate::explore::explore;
+use crate::explore::{LimitKind, Stop, explore};
 use crate::form::{FormFault, read_form};
 use crate::plan::node_count;
 use crate::report::Report;
@@ -18,21 +20,26 @@ use crate::report::text::{reached_count, report_lines};
 use crate::status::Status;
 use kn_plan::Net;
 use std::alloc::{AllocError, Global};
+use std::fmt;
 
 /// The report of a network: what copying it whole at every branch gives at its last tick.
-pub fn report_of_net(alloc: Global, net: &Net) -> Result<Report, AllocError>
+pub fn report_of_net(alloc: Global, net: &Net) -> Result<Report, Stop>
     requires sound { IsNet net.now }
     requires bare { IsBare net.now }
+    requires valid { AllByRecursion IsValid net.now.programs }
     ensures given { IfOk result (λ r. Gives r net.now) }
     ensures mapping { IfOk result (λ r. r.mapping ≡ Cob) }
+    ensures passed { IfErr result (IsPassed net.now) }
 {
     let mut scenarios = match explore(alloc, net) {
         Ok(scenarios) => scenarios,
         Err(_) => return Err(AllocError),
     };
     sort_by_name(node_count(net), &mut scenarios);
-    let report = report_from(alloc, net, &scenarios)?;
-    Ok(report)
+    match report_from(alloc, net, &scenarios) {
+        Ok(report) => Ok(report),
+        Err(error) => Err(Stop::Memory(error)),
+    }
 }
 
 /// A status, and the lines that go with it.
@@ -65,17 +72,61 @@ fn refused(alloc: Global) -> Result<Told, AllocError>
     })
 }
 
+impl fmt::Display for LimitKind {
+    ghost use Rattle.std.specs.Prelude.{Some};
+    ghost use Rattle.netsym.specs.Stopping.{limit_of};
+    ghost use Rattle.netsym.specs.Runs.{limit_name};
+
+    ghost output = { λ k. Some (limit_name (limit_of k)) };
+
+    fn fmt<W: fmt::Write>(&self, f: &mut fmt::Formatter<W>) -> fmt::Result {
+        match self {
+            LimitKind::States => write!(f, "states"),
+            LimitKind::Dstates => write!(f, "dstates"),
+        }
+    }
+}
+
+/// The answer where a limit was passed in a tick.
+fn limited(alloc: Global, kind: LimitKind, tick: u32) -> Result<Told, AllocError>
+    ensures { IfOk result (λ t. (t.status ≡ Status.Limit) × (flat_map string_bytes t.lines.items ≡ limit_line (limit_of kind) tick)) }
+{
+    let mut lines = Vec::new(alloc);
+    lines.push(format!(in alloc; "netsym: limit {kind} tick {tick}\n")?)?;
+    Ok(Told {
+        status: Status::Limit,
+        lines,
+    })
+}
+
+/// The answer where there is a report.
+fn printed(alloc: Global, report: &Report) -> Result<Told, AllocError>
+    ensures { IfOk result (λ t. (t.status ≡ (if nat_eq (reached_in report.now) 0 then Status.Clean else Status.Found)) × (flat_map string_bytes t.lines.items ≡ report_text report.now)) }
+{
+    Ok(Told {
+        status: status_of(report),
+        lines: report_lines(alloc, report)?,
+    })
+}
+
 /// The answer on a network.
 fn reported(alloc: Global, net: &Net) -> Result<Told, AllocError>
     requires sound { IsNet net.now }
     requires bare { IsBare net.now }
-    ensures { IfOk result (λ t. IsTold net.now t.status (flat_map string_bytes t.lines.items)) }
+    requires valid { AllByRecursion IsValid net.now.programs }
+    ensures { IfOk result (λ t. IsEither net.now t.status (flat_map string_bytes t.lines.items)) }
 {
-    let report = report_of_net(alloc, net)?;
-    Ok(Told {
-        status: status_of(&report),
-        lines: report_lines(alloc, &report)?,
-    })
+    match report_of_net(alloc, net) {
+        Ok(report) => {
+            let told = printed(alloc, &report)?;
+            Ok(told)
+        }
+        Err(Stop::Limit { kind, tick }) => {
+            let told = limited(alloc, kind, tick)?;
+            Ok(told)
+        }
+        Err(Stop::Memory(error)) => Err(error),
+    }
 }
 
 /// The status and the lines for the bytes of a network file.

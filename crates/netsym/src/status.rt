@@ -20,10 +20,12 @@ pub enum Status {
     WriteFault,
     /// 6: memory ran out.
     Memory,
+    /// 7: the exploration passed a limit.
+    Limit,
 }
 
 impl Status {
-    /// The exit status of the process, 0 to 6.
+    /// The exit status of the process, 0 to 7.
     pub fn code(self) -> u8
         ensures { result ≡ code_of self }
     {
@@ -35,6 +37,7 @@ impl Status {
             Status::ReadFault => 4,
             Status::WriteFault => 5,
             Status::Memory => 6,
+            Status::Limit => 7,
         }
     }
 }

@@ -70,8 +70,8 @@ fn run_once<S: Source, K: Sink>(
 }
 
 /// Does all that the program does, and waits for nobody: for the words of the command it reads a network file to its end,
-/// explores the network by copying it whole at every branch, and writes the report line by line. The whole text is made
-/// before its first byte is written.
+/// explores the network by copying it whole at every branch, and writes the report line by line, or the one line that
+/// names a limit that the network passes and the tick. The whole text is made before its first byte is written.
 pub fn run_alone<S: Source, K: Sink>(
     alloc: Global,
     words: &[&str],
@@ -90,7 +90,8 @@ pub fn run_alone<S: Source, K: Sink>(
     ensures read_fault { result ≡ Status.ReadFault → Rose (S.faults source.old) (S.faults source.new) }
     ensures write_fault { result ≡ Status.WriteFault → Rose (K.faults sink.old) (K.faults sink.new) }
 
-    // Exactly when each status comes, for a source that tells its bytes.
+    // When each status comes, for a source that tells its bytes: where the network that they describe passes no limit, its
+    // report is printed, but where a fault or want of memory comes between.
     ensures usage { IsUsage (words_of words.now) result }
     ensures exact { (bytes : List ℕ) → S.left source.old ≡ Some bytes → IsCommand (words_of words.now) → IsExact bytes result }
 {
