@@ -1,5 +1,5 @@
 -- When an exploration stops at a limit.
-use Rattle.std.proofs.Common.{◌≡◌, ℕ, suc, ◌+◌, ◌<◌, ◌≤◌, Bool, List, [], ◌∷◌, ◌++◌, length, refl, sym, ap, subst, ◌∙◌, arith, append_assoc}
+use Rattle.std.proofs.Common.{◌≡◌, ℕ, suc, ◌+◌, ◌<◌, Bool, List, ◌∷◌, ◌++◌, length, refl, sym, ap, subst, ◌∙◌, arith, append_assoc}
 use Rattle.std.specs.Prelude.{flat_map, Contains, Result, Ok, Err, IfErr}
 use Rattle.std.specs.List.{AllByRecursion}
 use Rattle.std.proofs.lemmas.List.{length-append}
@@ -17,8 +17,7 @@ use Rattle.netsym.specs.declared.explore.stop.Stop.TheVariants as stops
 use Rattle.netsym.specs.Deciding.{live_of}
 use Rattle.netsym.specs.Writing.{written_of}
 use Rattle.netsym.specs.Stopping.{StopsIn, StopsBefore, IsPassed}
-use Rattle.netsym.specs.Keeping.{Seen, kept_copies, kept_turns, kept_settled}
-use Rattle.netsym.specs.Holding.{run_nodes, held_at}
+use Rattle.netsym.specs.Keeping.{Seen, kept_copies, kept_settled}
 use Rattle.netsym.specs.Limiting.{IsMetCopy, AreTurned, HasManyPaths, HasManyCopies, InTurns, InNodes, copies_before}
 use Rattle.netsym.proofs.Kept.{turns_last}
 use Rattle.netsym.proofs.Plainness.{plain_paths, plain_pre}

@@ -31,10 +31,7 @@ pub fn report_of_net(alloc: Global, net: &Net) -> Result<Report, Stop>
     ensures mapping { IfOk result (λ r. r.mapping ≡ Cob) }
     ensures passed { IfErr result (IsPassed net.now) }
 {
-    let mut scenarios = match explore(alloc, net) {
-        Ok(scenarios) => scenarios,
-        Err(_) => return Err(AllocError),
-    };
+    let mut scenarios = explore(alloc, net)?;
     sort_by_name(node_count(net), &mut scenarios);
     match report_from(alloc, net, &scenarios) {
         Ok(report) => Ok(report),

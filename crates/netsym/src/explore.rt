@@ -1,10 +1,10 @@
 //! The exploration of a network by copying it whole at every branch.
 
+mod branch;
 mod copies;
 mod event;
 mod here;
 mod mail;
-mod branch;
 mod path;
 mod scenario;
 mod state;

@@ -1233,3 +1233,57 @@ fn the_last_of_all_ticks(rt: HostRuntime) -> Result<(), Fail> {
     );
     Ok(())
 }
+
+/// 170 branches in one event.
+/// - wide: `boot: input r0, 1`, `brz r0, a`, `a: jmp boot`
+const MORE_PREFIXES_THAN_THE_LIMIT: &str = "version = 1
+ticks = 1
+[[program]]
+name = \"wide\"
+code = \"00030000ffffffffffffffffffffffffffffffffffff0a0000000001000009000000000200000800000000000000\"
+[[node]]
+program = \"wide\"
+";
+
+const MORE_PREFIXES_THAN_THE_LIMIT_REPORT: &str = "netsym: limit states tick 0
+";
+
+#[test]
+fn more_prefixes_than_the_limit(rt: HostRuntime) -> Result<(), Fail> {
+    let ran = call_on(rt.alloc(), MORE_PREFIXES_THAN_THE_LIMIT.as_bytes())?;
+    assert_eq!(rt; ran.status, Status::Limit);
+    assert_eq!(rt;
+        ran.text.as_slice(),
+        MORE_PREFIXES_THAN_THE_LIMIT_REPORT.as_bytes()
+    );
+    Ok(())
+}
+
+/// Seven branches of each of two nodes at tick 1 are 16,384 scenarios.
+/// - seven: `boot: timer 0, 1`, `ret`, `timer0: input r0, 1`, `brz r0, a`, `a: input r0, 1`, `brz r0, b`,
+/// `b: input r0, 1`, `brz r0, c`, `c: input r0, 1`, `brz r0, d`, `d: input r0, 1`, `brz r0, e`, `e: input r0, 1`,
+/// `brz r0, f`, `f: input r0, 1`, `brz r0, g`, `g: ret`
+const MORE_SCENARIOS_THAN_THE_LIMIT: &str = "version = 1
+ticks = 3
+[[program]]
+name = \"seven\"
+code = \"00110000ffff0002ffffffffffffffffffffffffffff0b0000000001000023000000000000000a0000000001000009000000000400000a0000000001000009000000000600000a0000000001000009000000000800000a0000000001000009000000000a00000a0000000001000009000000000c00000a0000000001000009000000000e00000a0000000001000009000000001000002300000000000000\"
+[[node]]
+program = \"seven\"
+[[node]]
+program = \"seven\"
+";
+
+const MORE_SCENARIOS_THAN_THE_LIMIT_REPORT: &str = "netsym: limit dstates tick 1
+";
+
+#[test]
+fn more_scenarios_than_the_limit(rt: HostRuntime) -> Result<(), Fail> {
+    let ran = call_on(rt.alloc(), MORE_SCENARIOS_THAN_THE_LIMIT.as_bytes())?;
+    assert_eq!(rt; ran.status, Status::Limit);
+    assert_eq!(rt;
+        ran.text.as_slice(),
+        MORE_SCENARIOS_THAN_THE_LIMIT_REPORT.as_bytes()
+    );
+    Ok(())
+}

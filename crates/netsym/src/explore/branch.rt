@@ -173,11 +173,7 @@ fn settle(
     ensures ok { IfOk result (λ v. v.items ≡ kept_settled (live_of keep) net.now place.tick place.node copy) }
     ensures stop { IfErr result (StopsIn keep net.now place.tick) }
 {
-    let turns = left(
-        net.limits.ticks,
-        place.tick,
-        copy.node(place.node).state(),
-    );
+    let turns = left(net.limits.ticks, place.tick, copy.node(place.node).state());
     let mut list = Vec::new(alloc);
     push(copy, &mut list)?;
     for _turn in 0..turns {
@@ -251,12 +247,7 @@ fn shut_tick(
 }
 
 /// What an exploration holds before a tick.
-fn copies_at(
-    alloc: Global,
-    net: &Net,
-    keep: Keep,
-    tick: u32,
-) -> Result<Vec<NetworkCopy>, Stop>
+fn copies_at(alloc: Global, net: &Net, keep: Keep, tick: u32) -> Result<Vec<NetworkCopy>, Stop>
     requires sound { IsNet net.now }
     requires bare { IsBare net.now }
     ensures ok { IfOk result (λ v. v.items ≡ held_at (live_of keep) (written_of keep) net.now tick) }

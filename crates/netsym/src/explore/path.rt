@@ -99,7 +99,16 @@ fn run(
         Stepped::Stops(last) => put(net, last.finish()?, out),
         Stepped::Decides(decision, stays, turns) => {
             follow(net, keep, spot, fuel - 1, false, decision, stays, out)?;
-            follow(net, keep, spot, fuel - 1, true, decision.negated(), turns, out)
+            follow(
+                net,
+                keep,
+                spot,
+                fuel - 1,
+                true,
+                decision.negated(),
+                turns,
+                out,
+            )
         }
     }
 }

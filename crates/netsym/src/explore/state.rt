@@ -64,7 +64,6 @@ impl Model for NodeState {
     ghost invariant = { λ s. (length s.registers.items ≡ 16) × (length s.timers ≡ 8) × (s.inputs ≤ 65535) × (s.sent ≤ 65535) };
 }
 
-
 impl NodeState {
     /// A node at its start.
     pub fn new(alloc: Global) -> Result<NodeState, AllocError>

@@ -64,8 +64,10 @@ fn are_traces(scenario: &Scenario, first: &str, second: &str) -> Result<bool, Fa
     if scenario.len() != 2 {
         return Ok(false);
     }
-    Ok(scenario.state(0).trace().text()?.as_str() == first
-        && scenario.state(1).trace().text()?.as_str() == second)
+    Ok(
+        scenario.state(0).trace().text()?.as_str() == first
+            && scenario.state(1).trace().text()?.as_str() == second,
+    )
 }
 
 #[test]

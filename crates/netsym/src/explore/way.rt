@@ -176,7 +176,12 @@ impl WaySoFar {
 
     /// Sends a letter over a link.
     #[tactic(auto, using(crate::proofs::Edits::edits))]
-    pub fn send(&mut self, spot: &Spot, letter: &Arc<Letter, Global>, link: Link) -> Result<(), AllocError>
+    pub fn send(
+        &mut self,
+        spot: &Spot,
+        letter: &Arc<Letter, Global>,
+        link: Link,
+    ) -> Result<(), AllocError>
         requires few { self.old.state.sent < 65535 }
         requires node { spot.now.node < 64 }
         requires early { spot.now.tick ≤ 4096 }
