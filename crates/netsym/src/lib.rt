@@ -15,6 +15,8 @@ pub use status::Status;
 pub use top::{run_alone, words_ok};
 
 #[cfg(test)]
+mod hostile_tests;
+#[cfg(test)]
 mod packet_tests;
 #[cfg(test)]
 mod tests;

@@ -4,6 +4,7 @@ use crate::status::Status;
 use crate::top::run_alone;
 use kn_io::{MemSink, MemSource};
 use std::alloc::Global;
+use std::fmt::Write;
 use std::test::Fail;
 
 const COMMAND: [&str; 3] = ["explore", "--mapping", "cob"];
@@ -1285,5 +1286,64 @@ fn more_scenarios_than_the_limit(rt: HostRuntime) -> Result<(), Fail> {
         ran.text.as_slice(),
         MORE_SCENARIOS_THAN_THE_LIMIT_REPORT.as_bytes()
     );
+    Ok(())
+}
+
+/// A program that makes so many inputs of one bit and branches on each, at boot.
+fn branching(alloc: Global, count: u32) -> Result<String, Fail> {
+    let mut code = format!(in alloc; "{:04x}0000ffffffffffffffffffffffffffffffffffff", 2 * count + 1)?;
+    for index in 0..count {
+        write!(code, "0a00000000010000090000000{:03x}0000", 2 * index + 2)?;
+    }
+    code.push_str("2300000000000000")?;
+    Ok(code)
+}
+
+/// A file of one tick with one program, and so many nodes that run it.
+fn alike_nodes(alloc: Global, code: &str, nodes: u32) -> Result<String, Fail> {
+    let mut text = format!(in alloc;
+        "version = 1\nticks = 1\n[[program]]\nname = \"p\"\ncode = \"{code}\"\n"
+    )?;
+    for _ in 0..nodes {
+        text.push_str("[[node]]\nprogram = \"p\"\n")?;
+    }
+    Ok(text)
+}
+
+/// The status on a file, and whether the text ends so.
+fn ends_with(alloc: Global, file: &str, end: &str) -> Result<(Status, bool), Fail> {
+    let mut source = MemSource::new(file.as_bytes().to_vec(alloc)?, Vec::new(alloc));
+    let mut sink = MemSink::new(vec![in alloc; 0u8; 2_000_000]?, Vec::new(alloc));
+    let status = run_alone(alloc, &COMMAND, &mut source, &mut sink);
+    Ok((status, sink.bytes().ends_with(end.as_bytes())))
+}
+
+/// 12 branches in one event are 4,096 paths, as many as are allowed; with one more they are too many.
+#[test]
+fn paths_up_to_the_limit(rt: HostRuntime) -> Result<(), Fail> {
+    let alloc = rt.alloc();
+    let most = alike_nodes(alloc, &branching(alloc, 12)?, 1)?;
+    let end = "\nend states 4096 dstates 4096 reached 0 open 0\n";
+    assert!(rt; ends_with(alloc, &most, end)? == (Status::Clean, true));
+    let more = alike_nodes(alloc, &branching(alloc, 13)?, 1)?;
+    let end = "netsym: limit states tick 0\n";
+    assert!(rt; ends_with(alloc, &more, end)? == (Status::Limit, true));
+    Ok(())
+}
+
+/// Two nodes with six branches each have 4,096 scenarios, as many as are allowed; with a third node they are too many.
+#[test]
+fn scenarios_up_to_the_limit(rt: HostRuntime) -> Result<(), Fail> {
+    let alloc = rt.alloc();
+    let six = branching(alloc, 6)?;
+    let most = alike_nodes(alloc, &six, 2)?;
+    let end = "\nend states 8192 dstates 4096 reached 0 open 0\n";
+    assert!(rt; ends_with(alloc, &most, end)? == (Status::Clean, true));
+    let one = branching(alloc, 1)?;
+    let more = format!(in alloc;
+        "version = 1\nticks = 1\n[[program]]\nname = \"p\"\ncode = \"{six}\"\n[[program]]\nname = \"q\"\ncode = \"{one}\"\n[[node]]\nprogram = \"p\"\n[[node]]\nprogram = \"p\"\n[[node]]\nprogram = \"q\"\n"
+    )?;
+    let end = "netsym: limit dstates tick 0\n";
+    assert!(rt; ends_with(alloc, &more, end)? == (Status::Limit, true));
     Ok(())
 }
