@@ -16,6 +16,7 @@ pub mod Fronts
 pub mod Fitting
 pub mod DueEvents
 pub mod Held
+pub mod Tidying
 pub mod Copies
 pub mod Stopping
 pub mod Tidied

@@ -33,10 +33,8 @@ pub fn report_of_net(alloc: Global, net: &Net) -> Result<Report, Stop>
 {
     let mut scenarios = explore(alloc, net)?;
     sort_by_name(node_count(net), &mut scenarios);
-    match report_from(alloc, net, &scenarios) {
-        Ok(report) => Ok(report),
-        Err(error) => Err(Stop::Memory(error)),
-    }
+    let report = report_from(alloc, net, &scenarios)?;
+    Ok(report)
 }
 
 /// A status, and the lines that go with it.

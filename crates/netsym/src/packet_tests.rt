@@ -1290,10 +1290,14 @@ fn more_scenarios_than_the_limit(rt: HostRuntime) -> Result<(), Fail> {
 }
 
 /// A program that makes so many inputs of one bit and branches on each, at boot.
-fn branching(alloc: Global, count: u32) -> Result<String, Fail> {
-    let mut code = format!(in alloc; "{:04x}0000ffffffffffffffffffffffffffffffffffff", 2 * count + 1)?;
+fn branching(alloc: Global, count: u16) -> Result<String, Fail> {
+    let mut code = format!(in alloc;
+        "{:04x}0000ffffffffffffffffffffffffffffffffffff",
+        2 * u32::from(count) + 1
+    )?;
     for index in 0..count {
-        write!(code, "0a00000000010000090000000{:03x}0000", 2 * index + 2)?;
+        let next = 2 * u32::from(index) + 2;
+        write!(code, "0a00000000010000090000000{next:03x}0000")?;
     }
     code.push_str("2300000000000000")?;
     Ok(code)

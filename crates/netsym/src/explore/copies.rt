@@ -1,6 +1,6 @@
 //! Copies of the whole network.
 
-ghost use Rattle.std.specs.Prelude.{◌≡◌, ◌+◌, ◌<◌, ◌≤◌, map, length, filter, nat_eq, [], ◌∷◌, false, IfOk, OnOk, slice_set};
+ghost use Rattle.std.specs.Prelude.{◌≡◌, ◌+◌, ◌<◌, ◌≤◌, map, length, filter, nat_eq, [], ◌∷◌, true, false, IfOk, OnOk, slice_set};
 ghost use Rattle.std.specs.Arc.{arc_value};
 ghost use Rattle.kn_model.specs.Packets.{put_all, packet_le};
 ghost use Rattle.kn_model.specs.Nets.{opening_node};
@@ -94,6 +94,13 @@ impl NodeNow {
         Ok(state)
     }
 
+    /// Whether nothing changes where the tick is closed.
+    fn is_shut(&self, keep: Keep) -> bool
+        ensures { result ≡ true → shut_by (written_of keep) self.now ≡ self.now }
+    {
+        self.fresh.as_slice().is_empty() && self.state.is_written(keep)
+    }
+
     /// The node after the tick: what is fresh is got, and the own condition is written as the exploration holds it.
     pub fn shut(&self, keep: Keep) -> Result<NodeNow, AllocError>
         ensures { IfOk result (λ n. n ≡ shut_by (written_of keep) self.now) }
@@ -167,6 +174,22 @@ fn received(
         return Ok(same);
     }
     let next = Arc::new(alloc, now.receive(node, mails)?)?;
+    Ok(next)
+}
+
+/// A node after the tick; it is shared where nothing changes.
+fn shut_node(
+    alloc: Global,
+    now: &Arc<NodeNow, Global>,
+    keep: Keep,
+) -> Result<Arc<NodeNow, Global>, AllocError>
+    ensures { IfOk result (λ n. arc_value n ≡ shut_by (written_of keep) (arc_value now.now)) }
+{
+    if now.is_shut(keep) {
+        let same = Arc::try_clone(now)?;
+        return Ok(same);
+    }
+    let next = Arc::new(alloc, now.shut(keep)?)?;
     Ok(next)
 }
 
@@ -252,7 +275,7 @@ impl NetworkCopy {
         let alloc = *self.nodes.allocator();
         let mut nodes = Vec::new(alloc);
         for now in &self.nodes {
-            nodes.push(Arc::new(alloc, now.shut(keep)?)?)?;
+            nodes.push(shut_node(alloc, now, keep)?)?;
         }
         Ok(NetworkCopy { nodes })
     }

@@ -11,7 +11,7 @@ ghost use Rattle.netsym.specs.Writing.{written_of};
 ghost use Rattle.netsym.specs.Running.{IsBareState};
 
 use crate::explore::mail::{Mail, copy_mails, place_at, put_in_order};
-use crate::explore::value::{Decision, Keep, Value, tidy};
+use crate::explore::value::{Decision, Keep, Value, is_tidy, tidy};
 use kn_trace::Trace;
 use std::alloc::{AllocError, Global};
 use std::marker::Model;
@@ -276,6 +276,16 @@ impl NodeState {
     {
         self.own.extend_from_slice(guard)?;
         Ok(())
+    }
+
+    /// Whether the own condition is written as the exploration holds it.
+    pub fn is_written(&self, keep: Keep) -> bool
+        ensures { result ≡ true → written_of keep self.now.own ≡ self.now.own }
+    {
+        match keep {
+            Keep::All => true,
+            Keep::Possible => is_tidy(&self.own),
+        }
     }
 
     /// The own condition is written as the exploration holds it.

@@ -198,6 +198,18 @@ fn says_nothing_new(decisions: &[Decision], decision: Decision) -> bool
     decision.is_idle() || is_among(decisions, decision)
 }
 
+/// Whether none of the decisions says nothing new.
+pub fn is_tidy(decisions: &[Decision]) -> bool
+    ensures { result ≡ true → tidied (map literal_of decisions.now) ≡ map literal_of decisions.now }
+{
+    for (place, decision) in decisions.iter().enumerate() {
+        if says_nothing_new(&decisions[..place], *decision) {
+            return false;
+        }
+    }
+    true
+}
+
 /// The decisions without those that say nothing new, in their order.
 pub fn tidy(alloc: Global, decisions: &[Decision]) -> Result<Vec<Decision>, AllocError>
     ensures { IfOk result (λ v. map literal_of v.items ≡ tidied (map literal_of decisions.now)) }

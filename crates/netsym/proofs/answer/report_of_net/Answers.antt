@@ -14,13 +14,13 @@ report_from-requires c =
     subst (AreLong (length c.args.net.now.nodes)) (sym c.deref.ensures.value)
     (all_moved (λ (ss : List (State Term)). length ss ≡ length c.args.net.now.nodes) _ _ c.sort_by_name.ensures.same c.in_ok-scenarios.ensures.whole)
 
-pub returns-in-Ok-clause-given : goal.returns-in-Ok-clause-given
-returns-in-Ok-clause-given c =
+pub returns-clause-given : goal.returns-clause-given
+returns-clause-given c =
     let net = c.args.net.now in
     let list = c.sort_by_name.new.list.items in
     let listed : c.deref.result.now ≡ list = c.deref.ensures.value in
     let same = subst (λ xs. IsPermutation xs list) c.in_ok-scenarios.ensures.all c.sort_by_name.ensures.same in
     let long = subst (λ (n : ℕ). AreLong n c.in_ok-scenarios.scenarios.items) (sym c.node_count.ensures.count) c.in_ok-scenarios.ensures.whole in
     let sorted = c.sort_by_name.ensures.sorted long in
-    let plain = subst ArePlain listed c.in-Ok.ensures.plain in
-    subst (λ (r : Report). Gives r net) (sym (c.in-Ok.ensures.report ∙ ap (report_of net) listed)) (held_given net c.requires.sound list same sorted plain)
+    let plain = subst ArePlain listed c.in_ok-report.ensures.plain in
+    subst (λ (r : Report). Gives r net) (sym (c.in_ok-report.ensures.report ∙ ap (report_of net) listed)) (held_given net c.requires.sound list same sorted plain)
