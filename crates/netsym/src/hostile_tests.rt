@@ -134,7 +134,7 @@ fn files_past_the_bounds(rt: HostRuntime) -> Result<(), Fail> {
         link(alloc, "0", "1", "1 ")?,
         link(alloc, "0", "1", "1\r")?,
         link(alloc, "0", "1", "\u{661}")?,
-        String::from_str(alloc, &base[..base.len() - 1])?,
+        String::from_str(alloc, base.as_str().trim_end())?,
         format!(in alloc; "{base}\n")?,
         format!(in alloc; "\u{feff}{base}")?,
         format!(in alloc; "{PROGRAMS}{LINK}{NODES}")?,
