@@ -129,7 +129,7 @@ instr_read count last r i = tested_ok count last r (by_opcode_lem r) i
 
 pub instr_again : (count : ℕ) (last : Bool) (i : Instr) → IsInstr count i → (last ≡ true → Ends i) → instr_of_lem count last (row_of_lem i) ≡ Ok i
 instr_again count last i h end =
-    ap (tested count last (row_of_lem i)) (by_opcode_again count i h)
+    ap (tested count last (row_of_lem i)) (by_opcode_again i)
     ∙ rw (like_itself (row_of_lem i), in_range count i h, may_stand count last i h end) refl
 
 cells_eight : (bytes : List ℕ) → 8 ≤ length bytes → bytes ≡ get_or bytes 0 0 ∷ get_or bytes 1 0 ∷ get_or bytes 2 0 ∷ get_or bytes 3 0 ∷ get_or bytes 4 0 ∷ get_or bytes 5 0 ∷ get_or bytes 6 0 ∷ get_or bytes 7 0 ∷ drop 8 bytes

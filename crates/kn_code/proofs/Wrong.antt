@@ -73,7 +73,7 @@ opcode_kept r s same e =
 pub wrong_opcode : (count : ℕ) (last : Bool) (r : Row) → instr_of_lem count last r ≡ Err RowFaults.Opcode → HasWrongOpcode r
 wrong_opcode count last r e i n fits same =
     let none = opcode_kept r (row_of_lem i) same (unknown count last r (by_opcode_lem r) e) in
-    absurd (let wrong : None ≡ Some i = sym none ∙ by_opcode_again n i fits in cc)
+    absurd (let wrong : None ≡ Some i = sym none ∙ by_opcode_again i in cc)
 
 -- the fields alone decide that they are wrong
 field_again : (fields target target' : Bool) (i : Instr) → checked_lem fields target i ≡ Err RowFaults.Field → checked_lem fields target' i ≡ Err RowFaults.Field

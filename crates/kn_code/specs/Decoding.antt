@@ -1,9 +1,9 @@
 -- Reading a program from left to right, with the first fault that is met.
-use Rattle.std.specs.Prelude.{Bool, true, false, ◌≡◌, ℕ, zero, suc, ◌+◌, ◌*◌, ◌&&◌, not, List, [], ◌∷◌, length, drop, Option, Some, None, Ok, Err, ◌==◌, nat_lt, nat_le, if◌then◌else◌, slice_index}
+use Rattle.std.specs.Prelude.{Bool, true, ◌≡◌, ℕ, zero, suc, ◌+◌, ◌*◌, ◌&&◌, not, List, [], ◌∷◌, length, drop, Option, Some, None, Ok, Err, ◌==◌, nat_lt, nat_le, if◌then◌else◌, slice_index}
 use Rattle.std.specs.declared.result.Result.{Result}
 use Rattle.std.specs.Int.{w16, from_be_bytes}
 use Rattle.kn_code.specs.declared.program.Instr.{Instr}
-use Rattle.kn_code.specs.declared.program.Instr.TheVariants.{Const, Mov, Jmp, Brz, Input, Timer, Cancel, Send, Bcast, Recvw, Rlen, Rfrom, Assert, Node, Now, Ret, Halt}
+use Rattle.kn_code.specs.declared.program.Instr.TheVariants.{Const, Mov, Not, Ld, St, Ldx, Stx, Jmp, Brz, Input, Timer, Cancel, Send, Bcast, Recvw, Add, Sub, Mul, And, Or, Xor, Shl, Shr, Sar, Udiv, Urem, Eq, Ult, Slt, Rlen, Rfrom, Assert, Node, Now, Ret, Halt}
 use Rattle.kn_code.specs.declared.row.Row.{Row}
 use Rattle.kn_code.specs.declared.row.RowFault.{RowFault}
 use Rattle.kn_code.specs.declared.row.RowFault.TheVariants as rows
@@ -60,11 +60,16 @@ handled place (Err entry) = Err (faults.Handler place)
 unfoldable pub handler_at : ℕ → ℕ → ℕ → List ℕ → Result (Option ℕ) CodeFault
 handler_at count left place bytes = handled place (names count (entry_at_lem bytes))
 
--- The instruction that an opcode makes of the fields, whatever they are. An opcode without a row here is unknown.
+-- The instruction that an opcode makes of the fields, whatever they are.
 abbrev pub by_opcode_lem : Row → Option Instr
 by_opcode_lem r =
     if r.code == 0x01 then Some (Const r.a r.p)
     else (if r.code == 0x02 then Some (Mov r.a r.b)
+    else (if r.code == 0x03 then Some (Not r.a r.b)
+    else (if r.code == 0x04 then Some (Ld r.a r.p)
+    else (if r.code == 0x05 then Some (St r.p r.a)
+    else (if r.code == 0x06 then Some (Ldx r.a r.b r.p r.q)
+    else (if r.code == 0x07 then Some (Stx r.a r.b r.p r.q)
     else (if r.code == 0x08 then Some (Jmp r.p)
     else (if r.code == 0x09 then Some (Brz r.a r.p)
     else (if r.code == 0x0a then Some (Input r.a r.p)
@@ -73,6 +78,20 @@ by_opcode_lem r =
     else (if r.code == 0x0d then Some (Send r.p r.b r.a)
     else (if r.code == 0x0e then Some (Bcast r.b r.a)
     else (if r.code == 0x0f then Some (Recvw r.a r.p)
+    else (if r.code == 0x10 then Some (Add r.a r.b r.c)
+    else (if r.code == 0x11 then Some (Sub r.a r.b r.c)
+    else (if r.code == 0x12 then Some (Mul r.a r.b r.c)
+    else (if r.code == 0x13 then Some (And r.a r.b r.c)
+    else (if r.code == 0x14 then Some (Or r.a r.b r.c)
+    else (if r.code == 0x15 then Some (Xor r.a r.b r.c)
+    else (if r.code == 0x16 then Some (Shl r.a r.b r.c)
+    else (if r.code == 0x17 then Some (Shr r.a r.b r.c)
+    else (if r.code == 0x18 then Some (Sar r.a r.b r.c)
+    else (if r.code == 0x19 then Some (Udiv r.a r.b r.c)
+    else (if r.code == 0x1a then Some (Urem r.a r.b r.c)
+    else (if r.code == 0x1b then Some (Eq r.a r.b r.c)
+    else (if r.code == 0x1c then Some (Ult r.a r.b r.c)
+    else (if r.code == 0x1d then Some (Slt r.a r.b r.c)
     else (if r.code == 0x1e then Some (Rlen r.a)
     else (if r.code == 0x1f then Some (Rfrom r.a)
     else (if r.code == 0x20 then Some (Assert r.a)
@@ -80,24 +99,51 @@ by_opcode_lem r =
     else (if r.code == 0x22 then Some (Now r.a)
     else (if r.code == 0x23 then Some Ret
     else (if r.code == 0x24 then Some Halt
-    else None))))))))))))))))
+    else None)))))))))))))))))))))))))))))))))))
 
 -- a register, and how many from it on: 0 to 8 of the 16
 abbrev pub is_span_lem : ℕ → ℕ → Bool
 is_span_lem b n = nat_lt b 16 && nat_le n 8 && nat_le (b + n) 16
 
--- registers, counts, timers, indices, delays and widths are in range
+-- so many words of memory from one on: 1 to 16 of the 64
+abbrev pub is_memory_span_lem : ℕ → ℕ → Bool
+is_memory_span_lem m n = nat_lt m 64 && (nat_le 1 n && (nat_le n 16 && nat_le (m + n) 64))
+
+-- the three registers of an operator
+abbrev pub are_registers_lem : ℕ → ℕ → ℕ → Bool
+are_registers_lem a b c = nat_lt a 16 && (nat_lt b 16 && nat_lt c 16)
+
+-- registers, words of memory, counts, timers, indices, delays and widths are in range
 abbrev pub is_in_range_lem : Instr → Bool
 is_in_range_lem (Const a n) = nat_lt a 16
 is_in_range_lem (Mov a b) = nat_lt a 16 && nat_lt b 16
+is_in_range_lem (Not a b) = nat_lt a 16 && nat_lt b 16
+is_in_range_lem (Ld a m) = nat_lt a 16 && nat_lt m 64
+is_in_range_lem (St m a) = nat_lt m 64 && nat_lt a 16
+is_in_range_lem (Ldx a b m n) = nat_lt a 16 && (nat_lt b 16 && is_memory_span_lem m n)
+is_in_range_lem (Stx a b m n) = nat_lt a 16 && (nat_lt b 16 && is_memory_span_lem m n)
 is_in_range_lem (Jmp to) = true
 is_in_range_lem (Brz a to) = nat_lt a 16
-is_in_range_lem (Input a w) = nat_lt a 16 && (w == 1)
+is_in_range_lem (Input a w) = nat_lt a 16 && (nat_le 1 w && nat_le w 16)
 is_in_range_lem (Timer k d) = nat_lt k 8 && nat_le 1 d
 is_in_range_lem (Cancel k) = nat_lt k 8
 is_in_range_lem (Send l b n) = is_span_lem b n
 is_in_range_lem (Bcast b n) = is_span_lem b n
 is_in_range_lem (Recvw a k) = nat_lt a 16 && nat_lt k 8
+is_in_range_lem (Add a b c) = are_registers_lem a b c
+is_in_range_lem (Sub a b c) = are_registers_lem a b c
+is_in_range_lem (Mul a b c) = are_registers_lem a b c
+is_in_range_lem (And a b c) = are_registers_lem a b c
+is_in_range_lem (Or a b c) = are_registers_lem a b c
+is_in_range_lem (Xor a b c) = are_registers_lem a b c
+is_in_range_lem (Shl a b c) = are_registers_lem a b c
+is_in_range_lem (Shr a b c) = are_registers_lem a b c
+is_in_range_lem (Sar a b c) = are_registers_lem a b c
+is_in_range_lem (Udiv a b c) = are_registers_lem a b c
+is_in_range_lem (Urem a b c) = are_registers_lem a b c
+is_in_range_lem (Eq a b c) = are_registers_lem a b c
+is_in_range_lem (Ult a b c) = are_registers_lem a b c
+is_in_range_lem (Slt a b c) = are_registers_lem a b c
 is_in_range_lem (Rlen a) = nat_lt a 16
 is_in_range_lem (Rfrom a) = nat_lt a 16
 is_in_range_lem (Assert a) = nat_lt a 16
@@ -105,7 +151,6 @@ is_in_range_lem (Node a) = nat_lt a 16
 is_in_range_lem (Now a) = nat_lt a 16
 is_in_range_lem Ret = true
 is_in_range_lem Halt = true
-is_in_range_lem other = false
 
 -- a jump goes to an instruction, and the last instruction ends
 abbrev pub may_stand_lem : ℕ → Bool → Instr → Bool

@@ -1,5 +1,6 @@
 use super::*;
 use std::alloc::{AllocError, Global};
+use std::process::Abort;
 use std::test::Fail;
 
 /// The one instruction `halt`, at boot.
@@ -43,6 +44,28 @@ fn answer(read: Result<Program, CodeFault>) -> (char, usize) {
         Err(CodeFault::Target { place }) => ('T', place),
         Err(CodeFault::Memory(_)) => ('M', 0),
     }
+}
+
+/// A row before `halt` is this instruction's and no other's, or has a fault with this first letter.
+fn reads_as(
+    rt: &impl Abort,
+    alloc: Global,
+    row: [u8; 8],
+    want: Result<Instr, char>,
+) -> Result<(), Fail> {
+    let bytes = bytes_of(alloc, 2, 0, &[row, HALT])?;
+    let read = decode(alloc, &bytes);
+    match want {
+        Err(letter) => assert_eq!(rt; answer(read), (letter, 22), "row {}", row[0]),
+        Ok(instr) => match read {
+            Ok(program) => {
+                assert!(rt; program.instr(0) == Some(instr), "row {}", row[0]);
+                assert!(rt; encode(alloc, &program)?.as_slice() == bytes.as_slice());
+            }
+            Err(_) => assert!(rt; false, "row {}", row[0]),
+        },
+    }
+    Ok(())
 }
 
 #[test]
@@ -99,7 +122,9 @@ fn a_row_before_halt(rt: HostRuntime) -> Result<(), Fail> {
         ([0x0a, 0, 1, 0, 0, 1, 0, 0], 'F'),
         ([0x0a, 0, 0, 1, 0, 1, 0, 0], 'F'),
         ([0x0a, 0, 0, 0, 0, 0, 0, 0], 'F'),
-        ([0x0a, 0, 0, 0, 0, 2, 0, 0], 'F'),
+        ([0x0a, 0, 0, 0, 0, 16, 0, 0], '-'),
+        ([0x0a, 0, 0, 0, 0, 17, 0, 0], 'F'),
+        ([0x0a, 0, 0, 0, 1, 1, 0, 0], 'F'),
         ([0x0a, 0, 0, 0, 0, 1, 0, 1], 'F'),
         ([0x20, 15, 0, 0, 0, 0, 0, 0], '-'),
         ([0x20, 16, 0, 0, 0, 0, 0, 0], 'F'),
@@ -120,11 +145,9 @@ fn a_row_before_halt(rt: HostRuntime) -> Result<(), Fail> {
         ([0x24, 0, 0, 0, 0, 1, 0, 0], 'F'),
         ([0x24, 0, 0, 0, 0, 0, 0, 1], 'F'),
         ([0x00, 0, 0, 0, 0, 0, 0, 0], 'O'),
-        ([0x03, 0, 0, 0, 0, 0, 0, 0], 'O'),
-        ([0x07, 0, 0, 0, 0, 0, 0, 1], 'O'),
-        ([0x10, 0, 0, 0, 0, 0, 0, 0], 'O'),
-        ([0x1d, 0, 0, 0, 0, 0, 0, 0], 'O'),
         ([0x25, 0, 0, 0, 0, 0, 0, 0], 'O'),
+        ([0x26, 0, 0, 0, 0, 0, 0, 1], 'O'),
+        ([0xff, 0, 0, 0, 0, 0, 0, 0], 'O'),
     ] {
         let bytes = bytes_of(rt.alloc(), 2, 0, &[row, HALT])?;
         let place = if want == '-' { 0 } else { 22 };
@@ -258,18 +281,101 @@ fn rows_of_moves_jumps_timers_and_packets(rt: HostRuntime) -> Result<(), Fail> {
         ([0x22, 0, 0, 0, 0, 1, 0, 0], Err('F')),
         ([0x22, 0, 0, 0, 0, 0, 0, 1], Err('F')),
     ] {
-        let bytes = bytes_of(rt.alloc(), 2, 0, &[row, HALT])?;
-        let read = decode(rt.alloc(), &bytes);
-        match want {
-            Err(letter) => assert_eq!(rt; answer(read), (letter, 22), "row {}", row[0]),
-            Ok(instr) => match read {
-                Ok(program) => {
-                    assert!(rt; program.instr(0) == Some(instr), "row {}", row[0]);
-                    assert!(rt; encode(rt.alloc(), &program)?.as_slice() == bytes.as_slice());
-                }
-                Err(_) => assert!(rt; false, "row {}", row[0]),
-            },
-        }
+        reads_as(&rt, rt.alloc(), row, want)?;
+    }
+    Ok(())
+}
+
+#[test]
+fn rows_of_words_and_memory(rt: HostRuntime) -> Result<(), Fail> {
+    for (row, want) in [
+        (
+            [0x03, 15, 14, 0, 0, 0, 0, 0],
+            Ok(Instr::Not { a: 15, b: 14 }),
+        ),
+        ([0x03, 16, 0, 0, 0, 0, 0, 0], Err('F')),
+        ([0x03, 0, 16, 0, 0, 0, 0, 0], Err('F')),
+        ([0x03, 0, 0, 1, 0, 0, 0, 0], Err('F')),
+        ([0x03, 0, 0, 0, 0, 1, 0, 0], Err('F')),
+        (
+            [0x04, 15, 0, 0, 0, 63, 0, 0],
+            Ok(Instr::Ld { a: 15, m: 63 }),
+        ),
+        ([0x04, 16, 0, 0, 0, 0, 0, 0], Err('F')),
+        ([0x04, 0, 1, 0, 0, 0, 0, 0], Err('F')),
+        ([0x04, 0, 0, 0, 0, 64, 0, 0], Err('F')),
+        ([0x04, 0, 0, 0, 1, 0, 0, 0], Err('F')),
+        (
+            [0x05, 15, 0, 0, 0, 63, 0, 0],
+            Ok(Instr::St { m: 63, a: 15 }),
+        ),
+        ([0x05, 16, 0, 0, 0, 0, 0, 0], Err('F')),
+        ([0x05, 0, 0, 0, 0, 64, 0, 0], Err('F')),
+        ([0x05, 0, 0, 0, 0, 0, 0, 1], Err('F')),
+        (
+            [0x06, 15, 14, 0, 0, 60, 0, 4],
+            Ok(Instr::Ldx {
+                a: 15,
+                b: 14,
+                m: 60,
+                n: 4,
+            }),
+        ),
+        ([0x06, 16, 0, 0, 0, 0, 0, 1], Err('F')),
+        ([0x06, 0, 16, 0, 0, 0, 0, 1], Err('F')),
+        ([0x06, 0, 0, 1, 0, 0, 0, 1], Err('F')),
+        ([0x06, 0, 0, 0, 0, 0, 0, 0], Err('F')),
+        ([0x06, 0, 0, 0, 0, 0, 0, 17], Err('F')),
+        ([0x06, 0, 0, 0, 0, 61, 0, 4], Err('F')),
+        ([0x06, 0, 0, 0, 0xff, 0xff, 0, 2], Err('F')),
+        ([0x06, 0, 0, 0, 0, 0, 1, 0], Err('F')),
+        (
+            [0x07, 1, 2, 0, 0, 48, 0, 16],
+            Ok(Instr::Stx {
+                a: 1,
+                b: 2,
+                m: 48,
+                n: 16,
+            }),
+        ),
+        ([0x07, 0, 0, 0, 0, 49, 0, 16], Err('F')),
+        ([0x07, 0, 0, 0, 0, 63, 0, 0], Err('F')),
+        ([0x07, 0, 0, 0, 0, 64, 0, 1], Err('F')),
+        (
+            [0x0a, 3, 0, 0, 0, 16, 0, 0],
+            Ok(Instr::Input { a: 3, w: 16 }),
+        ),
+    ] {
+        reads_as(&rt, rt.alloc(), row, want)?;
+    }
+    Ok(())
+}
+
+#[test]
+fn rows_of_operators(rt: HostRuntime) -> Result<(), Fail> {
+    let (a, b, c) = (15, 14, 13);
+    for (code, instr) in [
+        (0x10, Instr::Add { a, b, c }),
+        (0x11, Instr::Sub { a, b, c }),
+        (0x12, Instr::Mul { a, b, c }),
+        (0x13, Instr::And { a, b, c }),
+        (0x14, Instr::Or { a, b, c }),
+        (0x15, Instr::Xor { a, b, c }),
+        (0x16, Instr::Shl { a, b, c }),
+        (0x17, Instr::Shr { a, b, c }),
+        (0x18, Instr::Sar { a, b, c }),
+        (0x19, Instr::Udiv { a, b, c }),
+        (0x1a, Instr::Urem { a, b, c }),
+        (0x1b, Instr::Eq { a, b, c }),
+        (0x1c, Instr::Ult { a, b, c }),
+        (0x1d, Instr::Slt { a, b, c }),
+    ] {
+        reads_as(&rt, rt.alloc(), [code, a, b, c, 0, 0, 0, 0], Ok(instr))?;
+        reads_as(&rt, rt.alloc(), [code, 16, b, c, 0, 0, 0, 0], Err('F'))?;
+        reads_as(&rt, rt.alloc(), [code, a, 16, c, 0, 0, 0, 0], Err('F'))?;
+        reads_as(&rt, rt.alloc(), [code, a, b, 16, 0, 0, 0, 0], Err('F'))?;
+        reads_as(&rt, rt.alloc(), [code, a, b, c, 0, 1, 0, 0], Err('F'))?;
+        reads_as(&rt, rt.alloc(), [code, a, b, c, 0, 0, 1, 0], Err('F'))?;
     }
     Ok(())
 }
@@ -290,6 +396,8 @@ fn a_row_after_halt(rt: HostRuntime) -> Result<(), Fail> {
         ([0x1f, 0, 0, 0, 0, 0, 0, 0], ('T', 30)),
         ([0x21, 0, 0, 0, 0, 0, 0, 0], ('T', 30)),
         ([0x22, 0, 0, 0, 0, 0, 0, 0], ('T', 30)),
+        ([0x06, 0, 0, 0, 0, 0, 0, 1], ('T', 30)),
+        ([0x10, 0, 0, 0, 0, 0, 0, 0], ('T', 30)),
     ] {
         let bytes = bytes_of(rt.alloc(), 2, 0, &[HALT, row])?;
         assert_eq!(rt; answer(decode(rt.alloc(), &bytes)), want, "row {}", row[0]);
