@@ -19,6 +19,7 @@ use Rattle.netsym.specs.declared.explore.event.Event.{Event}
 use Rattle.netsym.specs.declared.explore.event.Event.TheVariants as events
 use Rattle.netsym.specs.declared.explore.here.Spot.{Spot}
 use Rattle.netsym.specs.Events.{event_of, handler_of}
+use Rattle.netsym.specs.Plans.{HasPlainPrograms}
 use Rattle.netsym.specs.Running.{IsBareState, IsIn, here_of}
 use Rattle.netsym.specs.Keeping.{path_lives}
 use Rattle.netsym.proofs.Fitting.{passing, paths_pass}
@@ -76,8 +77,8 @@ delays_of nodes n (l ∷ ls) h = go (nat_eq l.from n) (delays_of nodes n ls h.1)
     go true rest = (h.0.most, rest)
     go false rest = rest
 
-pub spot_in : (net : Network) (spot : Spot) → IsNet net → laws.IsNet net → spot.node < length net.nodes → spot.tick < net.limits.ticks → spot.links.items ≡ links_of net spot.node → IsIn net spot
-spot_in net spot valid sound node early links =
+pub spot_in : (net : Network) (spot : Spot) → IsNet net → laws.IsNet net → HasPlainPrograms net → spot.node < length net.nodes → spot.tick < net.limits.ticks → spot.links.items ≡ links_of net spot.node → IsIn net spot
+spot_in net spot valid sound plain node early links =
     let few = valid.nodes in
     let last = valid.limits.ticks in
     record {
@@ -88,6 +89,7 @@ spot_in net spot valid sound node early links =
       delays = subst (AllByRecursion (λ (l : Link). l.delay ≤ 65535)) (sym links) (delays_of (length net.nodes) spot.node net.links valid.joins);
       fan = subst (λ (ls : List Link). length ls ≤ 16) (sym links) (valid.fan spot.node);
       sound = sound;
+      plain = plain;
     }
 
 -- what begins an event leaves a node bare

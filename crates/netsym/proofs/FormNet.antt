@@ -3,11 +3,11 @@ use Rattle.std.proofs.Common.{◌≤◌, ℕ, List, [], ◌∷◌, length, map, 
 use Rattle.std.specs.List.{AllByRecursion}
 use Rattle.kn_code.specs.declared.program.Instr.{Instr}
 use Rattle.kn_code.specs.declared.program.Instr.TheVariants.{Timer}
-use Rattle.kn_code.specs.Code.{Code, IsInstr, IsValid, Stands, AllWithLeft}
+use Rattle.kn_code.specs.Code.{Code, IsInstr, Stands, AllWithLeft}
 use Rattle.kn_plan.specs.Nets.{Network, Link}
 use Rattle.kn_plan.specs.Valid.{IsLink}
 use Rattle.kn_model.specs.Laws.{IsNet, SetsLater}
-use Rattle.netsym.specs.Plans.{plan_with, network_with, IsBarePlan, IsBare}
+use Rattle.netsym.specs.Plans.{plan_with, network_with, IsBarePlan, IsBare, IsPlainCode, HasPlainPrograms}
 use Rattle.netsym.specs.Form.{ProgramText, IsProgramOf, EachOf, IsFile}
 
 sets_later : (count : ℕ) (i : Instr) → IsInstr count i → SetsLater i
@@ -50,14 +50,14 @@ bare_plans (p ∷ places) = (record { loss = refl; duplicate = refl; reboot = re
 pub file_is_bare : (bytes : List ℕ) (net : Network) → IsFile bytes net → IsBare net
 file_is_bare bytes net file = subst IsBare (sym file.describes.network) (bare_plans file.describes.places)
 
-programs_valid : (texts : List ProgramText) (programs : List Code) → EachOf IsProgramOf texts programs → AllByRecursion IsValid programs
-programs_valid [] [] h = tt
-programs_valid [] (c ∷ cs) h = absurd h
-programs_valid (t ∷ ts) [] h = tt
-programs_valid (t ∷ ts) (c ∷ cs) h = (h.0.valid, programs_valid ts cs h.1)
+programs_plain : (texts : List ProgramText) (programs : List Code) → EachOf IsProgramOf texts programs → AllByRecursion IsPlainCode programs
+programs_plain [] [] h = tt
+programs_plain [] (c ∷ cs) h = absurd h
+programs_plain (t ∷ ts) [] h = tt
+programs_plain (t ∷ ts) (c ∷ cs) h = (h.0.plain, programs_plain ts cs h.1)
 
--- its programs are valid
-pub file_is_valid : (bytes : List ℕ) (net : Network) → IsFile bytes net → AllByRecursion IsValid net.programs
-file_is_valid bytes net file =
+-- its programs are plain
+pub file_is_plain : (bytes : List ℕ) (net : Network) → IsFile bytes net → HasPlainPrograms net
+file_is_plain bytes net file =
     let d = file.describes in
-    subst (λ (n : Network). AllByRecursion IsValid n.programs) (sym d.network) (programs_valid file.text.programs d.programs d.are_programs)
+    subst HasPlainPrograms (sym d.network) (programs_plain file.text.programs d.programs d.are_programs)

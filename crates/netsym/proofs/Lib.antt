@@ -1,6 +1,7 @@
 pub mod Edits
 pub mod Clashing
 pub mod Plain
+pub mod PlainPrograms
 pub mod PlainWays
 pub mod Plainness
 pub mod Steps

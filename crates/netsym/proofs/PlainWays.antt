@@ -1,11 +1,9 @@
--- Along an event of a valid program, all that a node computes with and decides is a word or an input of one bit.
+-- Along an event of a plain program, all that a node computes with and decides is a word or an input of one bit.
 use Rattle.std.proofs.Common.{ℕ, zero, suc, ◌+◌, Bool, true, false, cond, List, [], ◌∷◌, length, drop, Option, Some, None, refl}
 use Rattle.std.specs.Prelude.{slice_get, slice_index_or, nat_eq, nat_lt, not, ◌&&◌, IfSome}
 use Rattle.std.specs.List.{AllByRecursion}
 use Rattle.kn_code.specs.declared.program.Instr.{Instr}
 use Rattle.kn_code.specs.declared.program.Instr.TheVariants as instrs
-use Rattle.kn_code.specs.Code.{Code, IsInstr, AllWithLeft, Stands}
-use Rattle.kn_code.proofs.Valid.{instr_stands}
 use Rattle.kn_model.specs.Values.{Literal, negated}
 use Rattle.kn_model.specs.Terms.{Term, Word, terms}
 use Rattle.kn_model.specs.Histories.{Event, Boot, Reboot, Mail, Timer}
@@ -15,6 +13,8 @@ use Rattle.kn_model.specs.Nets.{Network, Link, code_of}
 use Rattle.kn_model.specs.Deciding.{IsPlainTerm, IsPlain}
 use Rattle.kn_model.specs.Rows.{Here, Way, Effect, Goes, Stops, Decides, effect, register, with_register, failed, next, counted, packet_on, sent_on, sent_over, sends_over, link_at, span, fresh_input, payload_of}
 use Rattle.kn_model.specs.Paths.{Path, goes_by, decided, splits, after, one_way, effect_of, effect_at, ways, runs_from, runs, chooses, is_no, cleared, with_loss, doubled, arrives, comes, event_ways, begun, mail_in, here_at, first_way, path_of, event_paths}
+use Rattle.netsym.specs.Plans.{IsPlainInstr, IsPlainCode}
+use Rattle.netsym.proofs.PlainPrograms.{plain_instr}
 use Rattle.kn_model.proofs.Lists.{all-append, all-map, all-take, all-drop, all-get_or, all-set, all-put_in}
 
 -- each is a word, or an input of one bit
@@ -47,10 +47,6 @@ IsPlainWay w = IsPlainState w.state × IsPlain w.literals × ArePackets w.sends
 abbrev pub IsPlainPath : Path Term → Type 0
 IsPlainPath p = IsPlainState p.state × ArePackets p.sends
 
--- the instructions of a program stand
-abbrev pub AreInstrs : Code → Type 0
-AreInstrs code = AllWithLeft (Stands (length code.instrs)) code.instrs
-
 -- registers that are cleared
 pub plain_zeros : (count : ℕ) → AreTerms (zeros terms count)
 plain_zeros zero = tt
@@ -64,7 +60,7 @@ payload_plain (Some q) p = p.0
 register_plain : (w : Way Term) (a : ℕ) → IsPlainWay w → IsPlainTerm (register terms w a)
 register_plain w a p = all-get_or IsPlainTerm w.state.registers a (Word 0) p.0.registers tt
 
-module _ (here : Here Term) (mail : IfSome here.mail IsPlainPacket) (instrs_stand : AreInstrs here.code) where
+module _ (here : Here Term) (mail : IfSome here.mail IsPlainPacket) (plain : IsPlainCode here.code) where
   -- what a row leaves is plain
   abbrev Each : Effect Term → Type 0
   Each (Goes w) = IsPlainWay w
@@ -92,37 +88,37 @@ module _ (here : Here Term) (mail : IfSome here.mail IsPlainPacket) (instrs_stan
       each_if (nat_lt 65535 (w.state.sent + length ls)) (Stops (failed terms here Fuel w)) (Goes (next terms (sent_over terms here words ls w))) p
       (sent_plain words ls w (all-take IsPlainTerm n (drop b w.state.registers) (all-drop IsPlainTerm b w.state.registers p.0.registers)) p)
 
-  -- the rows that a valid program has
-  row_plain : (count : ℕ) (i : Instr) (w : Way Term) → IsInstr count i → IsPlainWay w → Each (effect terms here i w)
-  row_plain count (instrs.Const a n) w s p = setting w a (Word n) tt p
-  row_plain count (instrs.Mov a b) w s p = setting w a (register terms w b) (register_plain w b p) p
-  row_plain count (instrs.Jmp to) w s p = p
-  row_plain count (instrs.Brz a to) w s p = (register_plain w a p, p, p)
-  row_plain count (instrs.Input a width) w s p =
+  -- the rows that a plain program has
+  row_plain : (i : Instr) (w : Way Term) → IsPlainInstr i → IsPlainWay w → Each (effect terms here i w)
+  row_plain (instrs.Const a n) w s p = setting w a (Word n) tt p
+  row_plain (instrs.Mov a b) w s p = setting w a (register terms w b) (register_plain w b p) p
+  row_plain (instrs.Jmp to) w s p = p
+  row_plain (instrs.Brz a to) w s p = (register_plain w a p, p, p)
+  row_plain (instrs.Input a width) w s p =
       let made = with_register terms w a (fresh_input terms here w width) in
-      each_if (nat_eq w.state.inputs 65535) (Stops (failed terms here Fuel w)) (Goes (next terms (counted terms made))) p (setting w a (fresh_input terms here w width) s.1 p)
-  row_plain count (instrs.Timer number d) w s p = p
-  row_plain count (instrs.Cancel number) w s p = p
-  row_plain count (instrs.Send l b n) w s p = sending w b n (link_at terms here.links l) p
-  row_plain count (instrs.Bcast b n) w s p = sending w b n here.links p
-  row_plain count (instrs.Recvw a place) w s p =
+      each_if (nat_eq w.state.inputs 65535) (Stops (failed terms here Fuel w)) (Goes (next terms (counted terms made))) p (setting w a (fresh_input terms here w width) s p)
+  row_plain (instrs.Timer number d) w s p = p
+  row_plain (instrs.Cancel number) w s p = p
+  row_plain (instrs.Send l b n) w s p = sending w b n (link_at terms here.links l) p
+  row_plain (instrs.Bcast b n) w s p = sending w b n here.links p
+  row_plain (instrs.Recvw a place) w s p =
       let words = payload_of here.mail in
       setting w a (slice_index_or words place (Word 0)) (all-get_or IsPlainTerm words place (Word 0) (payload_plain here.mail mail) tt) p
-  row_plain count (instrs.Rlen a) w s p = setting w a (Word (length (payload_of here.mail))) tt p
-  row_plain count (instrs.Rfrom a) w s p = setting w a _ tt p
-  row_plain count (instrs.Assert a) w s p = (register_plain w a p, p, p)
-  row_plain count (instrs.Node a) w s p = setting w a (Word here.node) tt p
-  row_plain count (instrs.Now a) w s p = setting w a (Word here.tick) tt p
-  row_plain count instrs.Ret w s p = p
-  row_plain count instrs.Halt w s p = p
-  row_plain count other w s p = absurd s
+  row_plain (instrs.Rlen a) w s p = setting w a (Word (length (payload_of here.mail))) tt p
+  row_plain (instrs.Rfrom a) w s p = setting w a _ tt p
+  row_plain (instrs.Assert a) w s p = (register_plain w a p, p, p)
+  row_plain (instrs.Node a) w s p = setting w a (Word here.node) tt p
+  row_plain (instrs.Now a) w s p = setting w a (Word here.tick) tt p
+  row_plain instrs.Ret w s p = p
+  row_plain instrs.Halt w s p = p
+  row_plain other w s p = absurd s
 
   at_plain : (w : Way Term) → IsPlainWay w → Each (effect_at terms here w)
-  at_plain w p = go (slice_get here.code.instrs w.pc) (instr_stands here.code.instrs (length here.code.instrs) w.pc instrs_stand)
+  at_plain w p = go (slice_get here.code.instrs w.pc) (plain_instr here.code.instrs w.pc plain)
     where
-      go : (o : Option Instr) → IfSome o (λ i. IsInstr (length here.code.instrs) i) → Each (effect_of terms here w o)
+      go : (o : Option Instr) → IfSome o IsPlainInstr → Each (effect_of terms here w o)
       go None s = p
-      go (Some i) s = row_plain (length here.code.instrs) i w s p
+      go (Some i) s = row_plain i w s p
 
   -- each way is plain
   abbrev All : List (Way Term) → Type 0
@@ -225,9 +221,9 @@ path_plain : (w : Way Term) → IsPlainWay w → IsPlainPath (path_of terms w)
 path_plain w p = (record { registers = p.0.registers; mail = p.0.mail; condition = all-append (λ (m : Literal Term). IsPlainTerm m.value) w.state.own w.literals p.0.condition p.1 }, p.2)
 
 -- the paths of an event
-pub event_plain : (net : Network) (n t : ℕ) (e : Event) (s : State Term) → AreInstrs (code_of net n) → IsPlainState s → AllByRecursion IsPlainPath (event_paths terms net n t e s)
-event_plain net n t e s instrs_stand p =
+pub event_plain : (net : Network) (n t : ℕ) (e : Event) (s : State Term) → IsPlainCode (code_of net n) → IsPlainState s → AllByRecursion IsPlainPath (event_paths terms net n t e s)
+event_plain net n t e s plain p =
     let here = here_at terms net n t e s in
     let first = first_way terms (begun terms t e s) in
     all-map IsPlainWay IsPlainPath (path_of terms) path_plain (event_ways terms here e first)
-    (all_event_ways here (mail_plain t e s p) instrs_stand e first (begun_plain t e s p, tt, tt))
+    (all_event_ways here (mail_plain t e s p) plain e first (begun_plain t e s p, tt, tt))

@@ -1,14 +1,13 @@
--- Where all programs are valid, each own condition that is met is on words and on inputs of one bit.
+-- Where all programs are plain, each own condition that is met is on words and on inputs of one bit.
 use Rattle.std.proofs.Common.{ℕ, zero, suc, ◌+◌, ◌<◌, List, [], ◌∷◌, length, map, flat_map, set, Option, Some, None}
 use Rattle.std.specs.Prelude.{filter, nat_eq}
 use Rattle.std.specs.List.{AllByRecursion}
-use Rattle.kn_code.specs.Code.{no_code, IsValid}
 use Rattle.kn_model.specs.Values.{Literal}
 use Rattle.kn_model.specs.Terms.{Term, terms}
 use Rattle.kn_model.specs.Histories.{Event}
 use Rattle.kn_model.specs.Packets.{Packet, Parcel, packet_le, parcel_le}
 use Rattle.kn_model.specs.Nodes.{Node}
-use Rattle.kn_model.specs.Nets.{Network, Plan, plan_of, code_of, opening_node, no_plan}
+use Rattle.kn_model.specs.Nets.{Network, Plan, opening_node, no_plan}
 use Rattle.kn_model.specs.Deciding.{IsPlainTerm, IsPlain}
 use Rattle.kn_model.specs.Due.{due, left}
 use Rattle.kn_model.specs.Paths.{Path, event_paths, parcels, node_after}
@@ -17,7 +16,9 @@ use Rattle.kn_model.specs.Laws.{IsNet}
 use Rattle.kn_model.specs.Alikes.{MetAt}
 use Rattle.kn_model.proofs.Lists.{all-append, all-map, all-filter, all-flat, all-weaker, all-get_or, all-set, all-put_all}
 use Rattle.kn_model.proofs.Implied.{all-contains}
-use Rattle.netsym.proofs.PlainWays.{IsPlainPacket, IsPlainState, IsPlainPath, AreInstrs, plain_zeros, event_plain}
+use Rattle.netsym.specs.Plans.{HasPlainPrograms}
+use Rattle.netsym.proofs.PlainPrograms.{plain_code}
+use Rattle.netsym.proofs.PlainWays.{IsPlainPacket, IsPlainState, IsPlainPath, plain_zeros, event_plain}
 
 -- a parcel's packet
 abbrev IsPlainParcel : Parcel Term → Type 0
@@ -81,11 +82,7 @@ close_plain s h = all-map IsPlainNode IsPlainNode close_node (λ y p. (got_plain
 then_plain : (go : Scenario Term → List (Scenario Term)) → ((s : Scenario Term) → ArePlainNodes s → All (go s)) → (xs : List (Scenario Term)) → All xs → All (flat_map go xs)
 then_plain go f xs h = all-flat ArePlainNodes go xs (all-weaker ArePlainNodes (λ u. All (go u)) f xs h)
 
-module _ (net : Network) (valid : AllByRecursion IsValid net.programs) where
-  -- the instructions of each node
-  stand : (n : ℕ) → AreInstrs (code_of net n)
-  stand n = all-get_or AreInstrs net.programs (plan_of net n).program no_code (all-weaker IsValid AreInstrs (λ c v. v.instrs) net.programs valid) tt
-
+module _ (net : Network) (plain : HasPlainPrograms net) where
   copies_plain : (n t : ℕ) (s : Scenario Term) → ArePlainNodes s → All (copies terms net n t s)
   copies_plain n t s h = go (due net.limits.ticks t (node_at terms s n).state)
     where
@@ -94,7 +91,7 @@ module _ (net : Network) (valid : AllByRecursion IsValid net.programs) where
       go (Some e) =
           let y = node_at terms s n in
           let before = node_plain s n h in
-          all-map IsPlainPath ArePlainNodes (copied terms s n e) (λ p i. copy_plain s n e p h i) (event_paths terms net n t e y.state) (event_plain net n t e y.state (stand n) before.0)
+          all-map IsPlainPath ArePlainNodes (copied terms s n e) (λ p i. copy_plain s n e p h i) (event_paths terms net n t e y.state) (event_plain net n t e y.state (plain_code net n plain) before.0)
 
   turns_plain : (n t count : ℕ) (s : Scenario Term) → ArePlainNodes s → All (turns terms net n t count s)
   turns_plain n t zero s h = (h, tt)
@@ -123,19 +120,19 @@ own_plain : (y : Node Term) → IsPlainNode y → IsPlainOwn y
 own_plain y p = p.0.condition
 
 -- the own condition of each node that is met
-pub plain_met : (net : Network) → IsNet net → AllByRecursion IsValid net.programs → (t n : ℕ) (s : Scenario Term) → MetAt terms net t n s → AllByRecursion (λ (y : Node Term). IsPlain y.state.own) s.nodes
-plain_met net good valid t n s m = all-weaker IsPlainNode IsPlainOwn own_plain s.nodes (met_plain net valid t n s m)
+pub plain_met : (net : Network) → IsNet net → HasPlainPrograms net → (t n : ℕ) (s : Scenario Term) → MetAt terms net t n s → AllByRecursion (λ (y : Node Term). IsPlain y.state.own) s.nodes
+plain_met net good plain t n s m = all-weaker IsPlainNode IsPlainOwn own_plain s.nodes (met_plain net plain t n s m)
 
 -- and that after each path of an event
-pub plain_paths : (net : Network) → IsNet net → AllByRecursion IsValid net.programs → (t n : ℕ) (s : Scenario Term) → MetAt terms net t n s → n < length s.nodes → (e : Event)
+pub plain_paths : (net : Network) → IsNet net → HasPlainPrograms net → (t n : ℕ) (s : Scenario Term) → MetAt terms net t n s → n < length s.nodes → (e : Event)
     → AllByRecursion (λ (p : Path Term). IsPlain p.state.own) (event_paths terms net n t e (node_at terms s n).state)
-plain_paths net good valid t n s m inside e =
+plain_paths net good plain t n s m inside e =
     let y = node_at terms s n in
-    let here = node_plain s n (met_plain net valid t n s m) in
-    all-weaker IsPlainPath (λ (p : Path Term). IsPlain p.state.own) (λ p i. i.0.condition) (event_paths terms net n t e y.state) (event_plain net n t e y.state (stand net valid n) here.0)
+    let here = node_plain s n (met_plain net plain t n s m) in
+    all-weaker IsPlainPath (λ (p : Path Term). IsPlain p.state.own) (λ p i. i.0.condition) (event_paths terms net n t e y.state) (event_plain net n t e y.state (plain_code net n plain) here.0)
 
 -- and that of each node once all events of a tick have run
-pub plain_pre : (net : Network) → IsNet net → AllByRecursion IsValid net.programs → (t : ℕ) → AllByRecursion (λ (s : Scenario Term). AllByRecursion (λ (y : Node Term). IsPlain y.state.own) s.nodes) (pre terms net t)
-plain_pre net good valid t =
+pub plain_pre : (net : Network) → IsNet net → HasPlainPrograms net → (t : ℕ) → AllByRecursion (λ (s : Scenario Term). AllByRecursion (λ (y : Node Term). IsPlain y.state.own) s.nodes) (pre terms net t)
+plain_pre net good plain t =
     all-weaker ArePlainNodes (λ s. AllByRecursion IsPlainOwn s.nodes) (λ s h. all-weaker IsPlainNode IsPlainOwn own_plain s.nodes h) (pre terms net t)
-    (then_plain (rest_of_tick terms net t) (from_plain net valid t 0 (length net.nodes)) (cob terms net t) (cob_plain net valid t))
+    (then_plain (rest_of_tick terms net t) (from_plain net plain t 0 (length net.nodes)) (cob terms net t) (cob_plain net plain t))

@@ -6,22 +6,22 @@ use Rattle.std.proofs.lemmas.Bool.{le-ltb}
 use Rattle.std.proofs.lemmas.List.{drop_all}
 use Rattle.kn_code.specs.declared.program.Instr.{Instr}
 use Rattle.kn_code.specs.declared.program.Instr.TheVariants as instrs
-use Rattle.kn_code.specs.Code.{IsInstr}
 use Rattle.kn_model.specs.Terms.{Term, terms}
 use Rattle.kn_model.specs.Nodes.{Fuel}
 use Rattle.kn_model.specs.Nets.{Link}
 use Rattle.kn_model.specs.Rows.{Here, Way, Effect, Goes, Stops, effect, failed, next, span, sent_on, sent_over, sends_over}
 use Rattle.kn_model.specs.Paths.{effect_of, effect_at}
 use Rattle.netsym.specs.declared.explore.mail.Letter.{Letter}
+use Rattle.netsym.specs.Plans.{IsPlainInstr}
 use Rattle.netsym.specs.Sending.{IsLetterOf}
 
 -- an input's width is 1
-pub input_at : (here : Here Term) (w : Way Term) (count a width : ℕ) (i : Instr) (x : Effect Term) → slice_get here.code.instrs w.pc ≡ Some i → i ≡ instrs.Input a width → IsInstr count i
+pub input_at : (here : Here Term) (w : Way Term) (a width : ℕ) (i : Instr) (x : Effect Term) → slice_get here.code.instrs w.pc ≡ Some i → i ≡ instrs.Input a width → IsPlainInstr i
     → x ≡ effect terms here (instrs.Input a 1) w → x ≡ effect_at terms here w
-input_at here w count a width i x found is valid e =
-    let one : IsInstr count (instrs.Input a width) = subst (IsInstr count) is valid in
+input_at here w a width i x found is plain e =
+    let one : IsPlainInstr (instrs.Input a width) = subst IsPlainInstr is plain in
     e
-    ∙ (ap (λ (n : ℕ). effect terms here (instrs.Input a n) w) (sym one.1)
+    ∙ (ap (λ (n : ℕ). effect terms here (instrs.Input a n) w) (sym one)
     ∙ (ap (λ (j : Instr). effect terms here j w) (sym is)
     ∙ ap (effect_of terms here w) (sym found)))
 

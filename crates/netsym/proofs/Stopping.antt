@@ -7,13 +7,13 @@ use Rattle.std.proofs.lemmas.List.Elements.{Contains-append_right}
 use Rattle.std.proofs.lemmas.Grind.{flat_map-append}
 use Rattle.kn_model.specs.Nets.{Network}
 use Rattle.kn_model.specs.Conditions.{Condition}
-use Rattle.kn_code.specs.Code.{IsValid}
 use Rattle.kn_model.specs.Laws.{IsNet}
 use Rattle.netsym.specs.declared.explore.value.Keep.{Keep}
 use Rattle.netsym.specs.declared.explore.value.Keep.TheVariants as keeps
 use Rattle.netsym.specs.declared.explore.stop.LimitKind.TheVariants as kinds
 use Rattle.netsym.specs.declared.explore.stop.Stop.{Stop}
 use Rattle.netsym.specs.declared.explore.stop.Stop.TheVariants as stops
+use Rattle.netsym.specs.Plans.{HasPlainPrograms}
 use Rattle.netsym.specs.Deciding.{live_of}
 use Rattle.netsym.specs.Writing.{written_of}
 use Rattle.netsym.specs.Stopping.{StopsIn, StopsBefore, IsPassed}
@@ -73,7 +73,7 @@ stops_before keep net t end (stops.Limit kinds.States tick) early h = let at = h
 stops_before keep net t end (stops.Limit kinds.Dstates tick) early h = let at = h.0 in (omega (arith, at, early), (refl, subst (HasManyCopies (live_of keep) (written_of keep) net) (sym at) h.1))
 
 -- what stops an exploration is a limit that was passed
-pub stops_passed : (net : Network) → IsNet net → AllByRecursion IsValid net.programs → (stop : Stop) → StopsBefore keeps.Possible net net.limits.ticks stop → IsPassed net stop
-stops_passed net good valid (stops.Memory e) h = tt
-stops_passed net good valid (stops.Limit kinds.States tick) h = (h.0, paths_over net tick good (plain_paths net good valid tick) h.1.1)
-stops_passed net good valid (stops.Limit kinds.Dstates tick) h = (h.0, copies_over net tick good (plain_pre net good valid tick) h.1.1)
+pub stops_passed : (net : Network) → IsNet net → HasPlainPrograms net → (stop : Stop) → StopsBefore keeps.Possible net net.limits.ticks stop → IsPassed net stop
+stops_passed net good plain (stops.Memory e) h = tt
+stops_passed net good plain (stops.Limit kinds.States tick) h = (h.0, paths_over net tick good (plain_paths net good plain tick) h.1.1)
+stops_passed net good plain (stops.Limit kinds.Dstates tick) h = (h.0, copies_over net tick good (plain_pre net good plain tick) h.1.1)

@@ -6,7 +6,7 @@ use Rattle.kn_code.specs.Code.{Code, IsValid}
 use Rattle.kn_code.specs.Rows.{spelling}
 use Rattle.kn_plan.specs.Nets.{Network, Link, links_of}
 use Rattle.kn_plan.specs.Valid.{IsLink}
-use Rattle.netsym.specs.Plans.{network_with}
+use Rattle.netsym.specs.Plans.{network_with, IsPlainCode}
 
 -- a program's name, and its bytecode in hexadecimal digits
 pub record ProgramText : Type 0 where
@@ -47,13 +47,14 @@ pub record IsName (name : List ℕ) : Type 0 where
   pub most : length name ≤ 32
   pub bytes : AllByRecursion IsNameByte name
 
--- the program that a text spells
+-- the program that a text spells, and it is a plain one
 pub record IsProgramOf (text : ProgramText) (code : Code) : Type 0 where
   pub name : IsName text.name
   pub bytes : List ℕ
   pub digits : decode_of text.code ≡ Ok bytes
   pub spelled : bytes ≡ spelling code
   pub valid : IsValid code
+  pub plain : IsPlainCode code
 
 -- one of these for each of those, in their order
 abbrev pub EachOf : {X Y : Type 0} → (X → Y → Type 0) → List X → List Y → Type 0

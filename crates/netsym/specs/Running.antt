@@ -8,6 +8,7 @@ use Rattle.kn_model.specs.Nets.{Network, Link, code_of, links_of}
 use Rattle.kn_model.specs.Rows.{Here}
 use Rattle.kn_model.specs.Laws.{IsNet}
 use Rattle.netsym.specs.declared.explore.here.Spot.{Spot}
+use Rattle.netsym.specs.Plans.{HasPlainPrograms}
 
 -- no loss, no duplication and no reboot is left
 pub record IsBareState (s : State Term) : Type 0 where
@@ -32,3 +33,4 @@ pub record IsIn (net : Network) (spot : Spot) : Type 0 where
   pub delays : AllByRecursion (λ (l : Link). l.delay ≤ 65535) spot.links.items
   pub fan : length spot.links.items ≤ 16
   pub sound : IsNet net
+  pub plain : HasPlainPrograms net

@@ -1,11 +1,10 @@
 //! What the program answers to a network file.
 
 ghost use Rattle.std.specs.Prelude.{◌≡◌, ◌≤◌, ℕ, IfOk, IfErr, string_bytes, nat_eq, if◌then◌else◌};
-ghost use Rattle.std.specs.List.{flat_map, AllByRecursion};
-ghost use Rattle.kn_code.specs.Code.{IsValid};
+ghost use Rattle.std.specs.List.{flat_map};
 ghost use Rattle.kn_model.specs.Laws.{IsNet};
 ghost use Rattle.kn_model.specs.Reports.{Cob, Gives};
-ghost use Rattle.netsym.specs.Plans.{IsBare};
+ghost use Rattle.netsym.specs.Plans.{IsBare, HasPlainPrograms};
 ghost use Rattle.netsym.specs.Stopping.{limit_of, IsPassed};
 ghost use Rattle.netsym.specs.Texts.{reached_in, report_text};
 ghost use Rattle.netsym.specs.Runs.{Answers, IsEither, IsTold, limit_line, not_form_line};
@@ -25,8 +24,8 @@ use std::fmt;
 /// The report of a network: what copying it whole at every branch gives at its last tick.
 pub fn report_of_net(alloc: Global, net: &Net) -> Result<Report, Stop>
     requires sound { IsNet net.now }
+    requires plain { HasPlainPrograms net.now }
     requires bare { IsBare net.now }
-    requires valid { AllByRecursion IsValid net.now.programs }
     ensures given { IfOk result (λ r. Gives r net.now) }
     ensures mapping { IfOk result (λ r. r.mapping ≡ Cob) }
     ensures passed { IfErr result (IsPassed net.now) }
@@ -107,8 +106,8 @@ fn printed(alloc: Global, report: &Report) -> Result<Told, AllocError>
 /// The answer on a network.
 fn reported(alloc: Global, net: &Net) -> Result<Told, AllocError>
     requires sound { IsNet net.now }
+    requires plain { HasPlainPrograms net.now }
     requires bare { IsBare net.now }
-    requires valid { AllByRecursion IsValid net.now.programs }
     ensures { IfOk result (λ t. IsEither net.now t.status (flat_map string_bytes t.lines.items)) }
 {
     match report_of_net(alloc, net) {

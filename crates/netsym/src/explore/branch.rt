@@ -1,14 +1,12 @@
 //! Copying the whole network at every branch.
 
 ghost use Rattle.std.specs.Prelude.{◌≡◌, ◌+◌, ◌++◌, ◌∷◌, [], ◌<◌, ◌≤◌, map, flat_map, filter, length, Contains, Some, IfOk, IfErr, OnOk};
-ghost use Rattle.std.specs.List.{AllByRecursion};
-ghost use Rattle.kn_code.specs.Code.{IsValid};
 ghost use Rattle.kn_model.specs.Due.{due};
 ghost use Rattle.kn_model.specs.Paths.{event_paths};
 ghost use Rattle.kn_model.specs.Laws.{IsNet};
 ghost use Rattle.kn_model.specs.Scenarios.{cob};
 ghost use Rattle.kn_model.specs.Terms.{terms};
-ghost use Rattle.netsym.specs.Plans.{IsBare};
+ghost use Rattle.netsym.specs.Plans.{IsBare, HasPlainPrograms};
 ghost use Rattle.netsym.specs.Deciding.{live_of};
 ghost use Rattle.netsym.specs.Writing.{written_of};
 ghost use Rattle.netsym.specs.Plain.{AreLong};
@@ -79,6 +77,7 @@ fn paths_of(
     copy: &NetworkCopy,
 ) -> Result<Vec<PathTaken>, Stop>
     requires sound { IsNet net.now }
+    requires plain { HasPlainPrograms net.now }
     requires kept { IsKept (live_of keep) net.now copy.now }
     requires met { IsMetCopy (live_of keep) (written_of keep) net.now place.tick place.node copy.now }
     requires due { due net.now.limits.ticks place.tick (seen_at copy.now place.node).state ≡ Some (event_of event) }
@@ -107,6 +106,7 @@ fn put_copies(
     out: &mut Vec<NetworkCopy>,
 ) -> Result<(), Stop>
     requires sound { IsNet net.now }
+    requires plain { HasPlainPrograms net.now }
     requires kept { IsKept (live_of keep) net.now copy }
     requires met { IsMetCopy (live_of keep) (written_of keep) net.now place.tick place.node copy }
     ensures ok { OnOk result (out.new.items ≡ out.old.items ++ kept_copies (live_of keep) net.now place.node place.tick copy) }
@@ -145,6 +145,7 @@ fn turn(
     list: Vec<NetworkCopy>,
 ) -> Result<Vec<NetworkCopy>, Stop>
     requires sound { IsNet net.now }
+    requires plain { HasPlainPrograms net.now }
     requires kept { AreKept (live_of keep) net.now list.items }
     requires turned { AreTurned (live_of keep) (written_of keep) net.now place.tick place.node list.items }
     ensures ok { IfOk result (λ v. v.items ≡ flat_map (kept_copies (live_of keep) net.now place.node place.tick) list.items) }
@@ -167,6 +168,7 @@ fn settle(
     copy: NetworkCopy,
 ) -> Result<Vec<NetworkCopy>, Stop>
     requires sound { IsNet net.now }
+    requires plain { HasPlainPrograms net.now }
     requires node { place.node < length net.now.nodes }
     requires kept { IsKept (live_of keep) net.now copy }
     requires from { Contains (copies_before (live_of keep) (written_of keep) net.now place.tick place.node) copy }
@@ -191,6 +193,7 @@ fn settle_all(
     list: Vec<NetworkCopy>,
 ) -> Result<Vec<NetworkCopy>, Stop>
     requires sound { IsNet net.now }
+    requires plain { HasPlainPrograms net.now }
     requires node { place.node < length net.now.nodes }
     requires kept { AreKept (live_of keep) net.now list.items }
     requires before { list.items ≡ copies_before (live_of keep) (written_of keep) net.now place.tick place.node }
@@ -215,6 +218,7 @@ fn run_tick(
     list: Vec<NetworkCopy>,
 ) -> Result<Vec<NetworkCopy>, Stop>
     requires sound { IsNet net.now }
+    requires plain { HasPlainPrograms net.now }
     requires kept { AreKept (live_of keep) net.now list.items }
     requires held { list.items ≡ held_at (live_of keep) (written_of keep) net.now tick }
     ensures ok { IfOk result (λ v. v.items ≡ run_nodes (live_of keep) (written_of keep) net.now tick (length net.now.nodes) list.items) }
@@ -249,6 +253,7 @@ fn shut_tick(
 /// What an exploration holds before a tick.
 fn copies_at(alloc: Global, net: &Net, keep: Keep, tick: u32) -> Result<Vec<NetworkCopy>, Stop>
     requires sound { IsNet net.now }
+    requires plain { HasPlainPrograms net.now }
     requires bare { IsBare net.now }
     ensures ok { IfOk result (λ v. v.items ≡ held_at (live_of keep) (written_of keep) net.now tick) }
     ensures stop { IfErr result (StopsBefore keep net.now tick) }
@@ -266,6 +271,7 @@ fn copies_at(alloc: Global, net: &Net, keep: Keep, tick: u32) -> Result<Vec<Netw
 /// It stops where there are more than the network's limits allow, also where what is too many is impossible.
 pub fn all_copies(alloc: Global, net: &Net, tick: u32) -> Result<Vec<NetworkCopy>, Stop>
     requires sound { IsNet net.now }
+    requires plain { HasPlainPrograms net.now }
     requires bare { IsBare net.now }
     ensures all { IfOk result (λ v. v.items ≡ map seen_in (cob terms net.now tick)) }
     ensures stop { IfErr result (StopsBefore Keep.All net.now tick) }
@@ -290,8 +296,8 @@ fn scenarios_of(alloc: Global, copies: Vec<NetworkCopy>) -> Result<Vec<Scenario>
 /// scenarios come in the order of exploration. It stops where a limit of the network is passed.
 pub fn explore(alloc: Global, net: &Net) -> Result<Vec<Scenario>, Stop>
     requires sound { IsNet net.now }
+    requires plain { HasPlainPrograms net.now }
     requires bare { IsBare net.now }
-    requires valid { AllByRecursion IsValid net.now.programs }
     ensures whole { IfOk result (λ v. AreLong (length net.now.nodes) v.items) }
     ensures all { IfOk result (λ v. v.items ≡ map states_in (held_at (live_of Keep.Possible) tidied net.now net.now.limits.ticks)) }
     ensures passed { IfErr result (IsPassed net.now) }

@@ -5,6 +5,7 @@ ghost use Rattle.kn_model.specs.Terms.{terms};
 ghost use Rattle.kn_model.specs.Due.{due};
 ghost use Rattle.kn_model.specs.Laws.{IsNet};
 ghost use Rattle.kn_model.specs.Paths.{decided, ways, runs_from, path_of, event_paths};
+ghost use Rattle.netsym.specs.Plans.{HasPlainPrograms};
 ghost use Rattle.netsym.specs.Views.{literal_of};
 ghost use Rattle.netsym.specs.Events.{event_of, handler_of};
 ghost use Rattle.netsym.specs.Deciding.{live_of, lives};
@@ -175,6 +176,7 @@ pub fn event_paths(
     state: &NodeState,
 ) -> Result<Vec<PathTaken>, EventStop>
     requires sound { IsNet net.now }
+    requires plain { HasPlainPrograms net.now }
     requires node { node < length net.now.nodes }
     requires early { tick < net.now.limits.ticks }
     requires due { due net.now.limits.ticks tick state.now ≡ Some (event_of event) }

@@ -1,13 +1,15 @@
 //! One instruction of a way.
 
-ghost use Rattle.std.specs.Prelude.{◌≡◌, ◌+◌, ◌-◌, ◌<◌, ◌≤◌, ◌^◌, IfOk, Some, None, length};
+ghost use Rattle.std.specs.Prelude.{◌≡◌, ◌+◌, ◌-◌, ◌<◌, ◌≤◌, ◌^◌, IfOk, IfSome, OnSome, Some, None, length, slice_get};
 ghost use Rattle.std.specs.List.{AllByRecursion};
 ghost use Rattle.kn_code.specs.declared.program.Instr.TheVariants as instrs;
+ghost use Rattle.kn_code.specs.Code.{IsInstr};
 ghost use Rattle.kn_model.specs.Terms.{terms};
 ghost use Rattle.kn_model.specs.Nodes.{Failed, Halted, Assert};
-ghost use Rattle.kn_model.specs.Nets.{Network, Link};
+ghost use Rattle.kn_model.specs.Nets.{Network, Link, code_of};
 ghost use Rattle.kn_model.specs.Rows.{effect, sets, sends_over, with_outcome, with_timer, next, jump, failed, not_zero, register, Goes, Stops, Decides};
 ghost use Rattle.kn_model.specs.Paths.{effect_at};
+ghost use Rattle.netsym.specs.Plans.{IsPlainInstr};
 ghost use Rattle.netsym.specs.Views.{term_of, kind_of};
 ghost use Rattle.netsym.specs.Stepped.{effect_seen};
 ghost use Rattle.netsym.specs.Running.{here_of, sender_here, IsIn};
@@ -155,12 +157,23 @@ fn send(spot: &Spot, b: u8, n: u8, links: &[Link], way: WaySoFar) -> Result<Step
     Ok(Stepped::Goes(way))
 }
 
+/// The next instruction of a way, if it has not left the program.
+fn next_instr(net: &Net, spot: &Spot, way: &WaySoFar) -> Option<Instr>
+    requires { IsIn net.now spot.now }
+    ensures value { result ≡ slice_get (code_of net.now spot.now.node).instrs way.now.pc }
+    ensures fits { OnSome result (way.now.pc < 4096) }
+    ensures valid { IfSome result (IsInstr (length (code_of net.now spot.now.node).instrs)) }
+    ensures plain { IfSome result IsPlainInstr }
+{
+    program_of(net, spot.node).instr(way.pc())
+}
+
 /// What the next instruction of an event at a place does to a way; one that has left the program stops.
 pub fn step(net: &Net, spot: &Spot, way: WaySoFar) -> Result<Stepped, AllocError>
     requires { IsIn net.now spot.now }
     ensures { IfOk result (λ s. effect_seen s ≡ effect_at terms (here_of net.now spot.now) way) }
 {
-    let Some(instr) = program_of(net, spot.node).instr(way.pc()) else {
+    let Some(instr) = next_instr(net, spot, &way) else {
         return Ok(Stepped::Stops(way));
     };
     match instr {

@@ -230,3 +230,40 @@ fn other_links_are_refused(rt: HostRuntime) -> Result<(), Fail> {
     assert_eq!(rt; answer(alloc, &text), 'y');
     Ok(())
 }
+
+/// A file of one node, whose program has this instruction and then `halt`.
+fn running(alloc: Global, row: &str) -> Result<String, AllocError> {
+    let code = format!(in alloc;
+        "00020000ffffffffffffffffffffffffffffffffffff{row}2400000000000000"
+    )?;
+    file(alloc, "1", "one", &code, 1, "")
+}
+
+#[test]
+fn instructions_that_do_not_run_yet_are_refused(rt: HostRuntime) -> Result<(), Fail> {
+    let alloc = rt.alloc();
+    for row in [
+        "0200000000000000",
+        "0a00000000010000",
+        "0d00000000000000",
+        "2200000000000000",
+    ] {
+        assert_eq!(rt; answer(alloc, &running(alloc, row)?), 'y', "row {row}");
+    }
+    for row in [
+        "0300000000000000",
+        "0400000000000000",
+        "0500000000000000",
+        "0600000000000001",
+        "0700000000000001",
+        "0a00000000020000",
+        "0a00000000100000",
+        "1000000000000000",
+        "1900000000000000",
+        "1d00000000000000",
+        "2500000000000000",
+    ] {
+        assert_eq!(rt; answer(alloc, &running(alloc, row)?), 'n', "row {row}");
+    }
+    Ok(())
+}

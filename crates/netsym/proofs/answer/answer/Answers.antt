@@ -1,5 +1,5 @@
 use Rattle.std.proofs.Common.{ap, Err}
-use Rattle.netsym.proofs.FormNet.{file_is_net, file_is_bare, file_is_valid}
+use Rattle.netsym.proofs.FormNet.{file_is_net, file_is_bare, file_is_plain}
 use Rattle.netsym.proofs.Ends.{refused_answers}
 use Rattle.netsym.proofs.answer.answer.Goals as goal
 
@@ -9,8 +9,8 @@ reported-requires-clause-sound c = file_is_net c.args.bytes.now c.in-Ok.net c.in
 pub reported-requires-clause-bare : goal.reported-requires-clause-bare
 reported-requires-clause-bare c = file_is_bare c.args.bytes.now c.in-Ok.net c.in-Ok.ensures.found
 
-pub reported-requires-clause-valid : goal.reported-requires-clause-valid
-reported-requires-clause-valid c = file_is_valid c.args.bytes.now c.in-Ok.net c.in-Ok.ensures.found
+pub reported-requires-clause-plain : goal.reported-requires-clause-plain
+reported-requires-clause-plain c = file_is_plain c.args.bytes.now c.in-Ok.net c.in-Ok.ensures.found
 
 pub returns-in_ok-told-in-Err-NotForm : goal.returns-in_ok-told-in-Err-NotForm
 returns-in_ok-told-in-Err-NotForm c =

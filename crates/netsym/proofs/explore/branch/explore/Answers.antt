@@ -22,5 +22,5 @@ returns-in_err-copies-clause-passed c =
     let stop : IfErr c.copies_at.result (StopsBefore keeps.Possible c.args.net.now c.args.net.now.limits.ticks) =
     subst (λ (n : ℕ). IfErr c.copies_at.result (StopsBefore keeps.Possible c.args.net.now n)) (ap (λ (m : Network). m.limits.ticks) c.net.view_is) c.copies_at.ensures.stop in
     let so : IfErr c.copies_at.result (IsPassed c.args.net.now) =
-    err_weaker c.copies_at.result (StopsBefore keeps.Possible c.args.net.now c.args.net.now.limits.ticks) (IsPassed c.args.net.now) (stops_passed c.args.net.now c.requires.sound c.requires.valid) stop in
+    err_weaker c.copies_at.result (StopsBefore keeps.Possible c.args.net.now c.args.net.now.limits.ticks) (IsPassed c.args.net.now) (stops_passed c.args.net.now c.requires.sound c.requires.plain) stop in
     search rules

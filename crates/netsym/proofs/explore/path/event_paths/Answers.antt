@@ -14,7 +14,7 @@ use Rattle.netsym.proofs.DueEvents.{spot_in, event_passing, starts_living}
 use Rattle.netsym.proofs.explore.path.event_paths.Goals as goal
 
 pub handle-requires-clause-spot : goal.handle-requires-clause-spot
-handle-requires-clause-spot c = spot_in c.args.net.now (record { node = c.args.node; tick = c.args.tick; links = c.in_ok-links.links; mail = c.begin-mail.result }) c.bounds.ensures c.requires.sound c.requires.node c.requires.early c.in_ok-links.ensures
+handle-requires-clause-spot c = spot_in c.args.net.now (record { node = c.args.node; tick = c.args.tick; links = c.in_ok-links.links; mail = c.begin-mail.result }) c.bounds.ensures c.requires.sound c.requires.plain c.requires.node c.requires.early c.in_ok-links.ensures
 
 pub handle-requires-clause-lives : goal.handle-requires-clause-lives
 handle-requires-clause-lives c =

@@ -1,4 +1,4 @@
-use Rattle.netsym.proofs.FormNet.{file_is_net, file_is_bare, file_is_valid}
+use Rattle.netsym.proofs.FormNet.{file_is_net, file_is_bare, file_is_plain}
 use Rattle.netsym.proofs.explore.tests.scenarios_of.Goals as goal
 
 pub explore-requires-clause-sound : goal.explore-requires-clause-sound
@@ -7,5 +7,5 @@ explore-requires-clause-sound c = file_is_net c.as_bytes.result.now c.in_ok-net.
 pub explore-requires-clause-bare : goal.explore-requires-clause-bare
 explore-requires-clause-bare c = file_is_bare c.as_bytes.result.now c.in_ok-net.net c.in_ok-net.ensures.found
 
-pub explore-requires-clause-valid : goal.explore-requires-clause-valid
-explore-requires-clause-valid c = file_is_valid c.as_bytes.result.now c.in_ok-net.net c.in_ok-net.ensures.found
+pub explore-requires-clause-plain : goal.explore-requires-clause-plain
+explore-requires-clause-plain c = file_is_plain c.as_bytes.result.now c.in_ok-net.net c.in_ok-net.ensures.found
