@@ -1,7 +1,7 @@
 -- A conflict's line closes the assignments that begin with the decisions.
 use Rattle.std.proofs.Common.{◌≡◌, ℕ, ◌+◌, ◌<◌, Bool, true, false, List, [], ◌∷◌, ◌++◌, length, map, append-nil, append_assoc, refl, ap, sym, subst, ◌∙◌, arith, length-append}
-use Rattle.std.specs.Prelude.{Some, slice_get}
-use Rattle.std.specs.Bool.{MatchBool}
+use Rattle.std.specs.Prelude.{Some, None, MatchOption, slice_get}
+use Rattle.std.specs.declared.option.Option.{Option}
 use Rattle.std.proofs.lemmas.List.{map-append, length-map}
 use Rattle.kn_cnf.specs.declared.clauses.Lit.{Lit}
 use Rattle.kn_cnf.specs.Formulas.{Step}
@@ -11,10 +11,10 @@ use Rattle.kn_unsat.proofs.Sound.{good_follows, meets_more}
 use Rattle.kn_sat.specs.declared.trail.Assigned.{Assigned}
 use Rattle.kn_sat.specs.Trails.{latest, bit, IsTrail, IsFlipped, undecided, reasons_of}
 use Rattle.kn_sat.specs.Standings.{IsConflict, Stands}
-use Rattle.kn_sat.specs.Order.{spelled}
+use Rattle.kn_sat.specs.Order.{IsClosed}
 use Rattle.kn_sat.proofs.Numbers.{later_lt}
 use Rattle.kn_sat.proofs.Lines.{good_line}
-use Rattle.kn_sat.proofs.Flips.{flipped_trail, flipped_later}
+use Rattle.kn_sat.proofs.Flips.{flipped_trail, flipped_later, flipped_before}
 
 -- the clauses of lines
 abbrev pub lines_of : List Step → List (List Lit)
@@ -40,18 +40,20 @@ module _ (n : ℕ) (cs : List (List Lit)) (lines lines' : List Step) (s : Step) 
   good : AreGood cs lines'
   good = subst (AreGood cs) (sym more) (good_more cs lines s stands.good (subst (IsGood (cs ++ lines_of lines)) (sym line) (good_line (cs ++ lines_of lines) n es conflict at.0 stands.trail at.1 at.2)))
 
-  pub close : (b : Bool) → MatchBool b (IsFlipped es es' number) (undecided es ≡ []) → MatchBool b (Stands n cs lines' es' × (spelled n (latest es) < spelled n (latest es'))) (Checks cs lines')
-  close true f =
+  pub close : (o : Option ℕ) → MatchOption o (undecided es ≡ []) (IsFlipped es es' number) → MatchOption o (Checks cs lines') (IsClosed n cs lines' es es')
+  close (Some q) f =
       let before : List (List Lit) = cs ++ lines_of lines in
       let count : length before ≡ number = length-append cs (lines_of lines) ∙ (ap (λ k. length cs + k) (length-map lines (λ (t : Step). t.clause)) ∙ sym place) in
       let found : slice_get (before ++ undecided es ∷ []) number ≡ Some (undecided es) = subst (λ k. slice_get (before ++ undecided es ∷ []) k ≡ Some (undecided es)) count (last_clause before (undecided es)) in
-      let trail : IsTrail (before ++ undecided es ∷ []) n [] es' = flipped_trail before n es es' number (undecided es ∷ []) stands.trail f found in
+      let trail : IsTrail (before ++ undecided es ∷ []) n [] es' = flipped_trail before n es es' number q (undecided es ∷ []) stands.trail f found in
       let whole : before ++ undecided es ∷ [] ≡ cs ++ lines_of lines' =
-      append_assoc cs (lines_of lines) (undecided es ∷ []) ∙ ap (λ (ds : List (List Lit)). cs ++ ds) (sym (ap lines_of (more ∙ ap (λ (t : Step). lines ++ t ∷ []) line) ∙ map-append (λ (t : Step). t.clause) lines (record { clause = undecided es; hints = reasons_of es ++ conflict ∷ [] } ∷ []))) in (
-        record { good = good; trail = subst (λ (ds : List (List Lit)). IsTrail ds n [] es') whole trail },
-        later_lt n (bit (latest es)) (bit (latest es')) (flipped_later before n es es' number stands.trail f),
-      )
-  close false none = record {
+      append_assoc cs (lines_of lines) (undecided es ∷ []) ∙ ap (λ (ds : List (List Lit)). cs ++ ds) (sym (ap lines_of (more ∙ ap (λ (t : Step). lines ++ t ∷ []) line) ∙ map-append (λ (t : Step). t.clause) lines (record { clause = undecided es; hints = reasons_of es ++ conflict ∷ [] } ∷ []))) in
+      record {
+        stands = record { good = good; trail = subst (λ (ds : List (List Lit)). IsTrail ds n [] es') whole trail };
+        later = later_lt n (bit (latest es)) (bit (latest es')) (flipped_later before n es es' number q stands.trail f);
+        before = flipped_before before n es es' number q stands.trail f;
+      }
+  close None none = record {
     good = good;
     ends = (lines, reasons_of es ++ conflict ∷ [], more ∙ ap (λ (t : Step). lines ++ t ∷ []) (line ∙ ap (λ (c : List Lit). record { clause = c; hints = reasons_of es ++ conflict ∷ [] }) none));
   }

@@ -9,6 +9,7 @@ use Rattle.kn_cnf.specs.Units.{valued, IsUnit}
 use Rattle.kn_sat.specs.declared.trail.Assigned.{Assigned}
 use Rattle.kn_sat.specs.declared.trail.Reason.TheVariants as reasons
 use Rattle.kn_sat.specs.Trails.{latest, IsTrail, IsGrown, open_count, count_open}
+use Rattle.kn_sat.specs.Standings.{AreAssigned}
 use Rattle.kn_sat.proofs.Trails.{valued_own, valued_other, valued_kept, var_opens, onto_more, trail_more, clause_kept}
 
 one_at_most : (o : Option Bool) → open_count o ≤ 1
@@ -62,3 +63,7 @@ module _ (cs : List (List Lit)) (vars : ℕ) where
         count = omega (arith, ap (count_open vars) literals, count_less vars (latest old) l below opens, longer);
         longer = omega (arith, longer);
       }
+
+-- what is assigned stays so
+pub assigned_grown : (n vars : ℕ) (cs : List (List Lit)) (old new : List Assigned) → IsGrown cs vars old new → AreAssigned n (latest old) → AreAssigned n (latest new)
+assigned_grown n vars cs old new grown all i low = let at = all i low in (at.0, grown.kept i at.0 at.1)

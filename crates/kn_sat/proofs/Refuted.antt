@@ -73,6 +73,9 @@ module _ (n vars : ℕ) (cs : List (List Lit)) (lines : List Step) (old new : Li
   pub spelled_decided : spelled n (latest old) ≤ spelled n (latest new)
   spelled_decided = higher n (latest old) (latest new) (λ p b was. ap (λ (ls : List Lit). valued ls p) literals ∙ valued_kept (latest old) (record { var = q; neg = true }) p b opens was)
 
+  pub assigned_decided : AreAssigned q (latest new)
+  assigned_decided i below = let at = before i below in (at.0, ap (λ (ls : List Lit). valued ls i) literals ∙ valued_kept (latest old) (record { var = q; neg = true }) i at.0 opens at.1)
+
   pub count_decided : count_open vars (latest new) < count_open vars (latest old)
   count_decided = omega (arith, ap (count_open vars) literals, count_less vars (latest old) (record { var = q; neg = true }) inside opens)
 

@@ -1,9 +1,12 @@
 -- The order of assignments, and what is known of them.
 use Rattle.std.specs.Prelude.{◌≡◌, ℕ, ◌+◌, ◌^◌, ◌<◌, Bool, true, false, if◌then◌else◌, List, [], ◌∷◌, length}
 use Rattle.kn_cnf.specs.declared.clauses.Lit.{Lit}
+use Rattle.kn_cnf.specs.Formulas.{Step}
 use Rattle.kn_cnf.specs.Truth.{Meets}
 use Rattle.kn_cnf.specs.Encoding.{bits_from}
-use Rattle.kn_sat.specs.Trails.{bit}
+use Rattle.kn_sat.specs.declared.trail.Assigned.{Assigned}
+use Rattle.kn_sat.specs.Trails.{latest, bit}
+use Rattle.kn_sat.specs.Standings.{AreAssigned, Stands}
 
 -- the number that bits spell, the first one highest: as many assignments come before, false before true
 abbrev pub number : List Bool → ℕ
@@ -21,3 +24,9 @@ AreRefuted n cs below = (bits : List Bool) → length bits ≡ n → number bits
 -- the number that the values of the first variables spell, an open one being false
 abbrev pub spelled : ℕ → List Lit → ℕ
 spelled n ls = number (bits_from (bit ls) 0 n)
+
+-- the assignments that begin with the decisions were closed, and the inputs before the turned one are assigned
+pub record IsClosed (n : ℕ) (cs : List (List Lit)) (lines : List Step) (old new : List Assigned) (q : ℕ) : Type 0 where
+  pub stands : Stands n cs lines new
+  pub later : spelled n (latest old) < spelled n (latest new)
+  pub before : AreAssigned q (latest new)

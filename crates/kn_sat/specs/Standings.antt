@@ -1,5 +1,5 @@
 -- How clauses stand on a trail, and what propagation answers.
-use Rattle.std.specs.Prelude.{◌≡◌, ◌<◌, ◌++◌, ℕ, Bool, List, map, length, slice_get, Some, []}
+use Rattle.std.specs.Prelude.{◌≡◌, ◌<◌, ◌++◌, ℕ, Bool, List, map, length, slice_get, Some, None, []}
 use Rattle.kn_cnf.specs.declared.clauses.Lit.{Lit}
 use Rattle.kn_cnf.specs.Formulas.{Step}
 use Rattle.kn_cnf.specs.Units.{valued, IsFalse, IsUnit}
@@ -9,6 +9,8 @@ use Rattle.kn_sat.specs.declared.propagation.Standing.{Standing}
 use Rattle.kn_sat.specs.declared.propagation.Standing.TheVariants as standings
 use Rattle.kn_sat.specs.declared.propagation.Scan.{Scan}
 use Rattle.kn_sat.specs.declared.propagation.Scan.TheVariants as scans
+use Rattle.kn_sat.specs.declared.propagation.Settled.{Settled}
+use Rattle.kn_sat.specs.declared.propagation.Settled.TheVariants as settled
 use Rattle.kn_sat.specs.Trails.{latest, IsTrail}
 
 -- the clause is neither false nor unit
@@ -44,6 +46,18 @@ IsScanned cs old new scans.Calm = AreCalm cs new
 -- each of the first variables is assigned
 abbrev pub AreAssigned : ℕ → List Lit → Type 0
 AreAssigned n ls = (i : ℕ) → i < n → (b : Bool) × (valued ls i ≡ Some b)
+
+-- the first of the inputs that is open
+pub record IsFirstOpen (n : ℕ) (ls : List Lit) (q : ℕ) : Type 0 where
+  pub input : q < n
+  pub opens : valued ls q ≡ None
+  pub before : AreAssigned q ls
+
+-- where unit propagation came to
+abbrev pub IsSettled : List (List Lit) → ℕ → List Assigned → Settled → Type 0
+IsSettled cs n es (settled.Conflict h) = IsConflict cs es h
+IsSettled cs n es (settled.Open q) = IsFirstOpen n (latest es) q
+IsSettled cs n es settled.Calm = AreAssigned n (latest es) × AreCalm cs es
 
 -- the lines follow from the clauses, and the trail from the clauses and the lines
 pub record Stands (n : ℕ) (cs : List (List Lit)) (lines : List Step) (es : List Assigned) : Type 0 where

@@ -85,11 +85,13 @@ pub record IsGrown (cs : List (List Lit)) (vars : ℕ) (old new : List Assigned)
   pub count : count_open vars (latest new) + length new ≡ count_open vars (latest old) + length old
   pub longer : length old ≤ length new
 
--- the latest decision was taken back with all behind it, and its negation assigned by the clause with this number
-pub record IsFlipped (old new : List Assigned) (clause : ℕ) : Type 0 where
+-- the latest decision, of this variable, was taken back with all behind it, and its negation assigned by the clause with
+-- this number
+pub record IsFlipped (old new : List Assigned) (clause var : ℕ) : Type 0 where
   pub front : List Assigned
   pub literal : Lit
   pub back : List Assigned
   pub was : old ≡ front ++ record { literal = literal; reason = reasons.Decision } ∷ back
   pub is : new ≡ front ++ record { literal = negated literal; reason = reasons.Clause clause } ∷ []
   pub last : undecided back ≡ []
+  pub own : literal.var ≡ var

@@ -1,12 +1,12 @@
 //! Unit propagation.
 
-ghost use Rattle.std.specs.Prelude.{◌≡◌, ◌<◌, ◌++◌, ◌∷◌, [], ℕ, List, Bool, IfOk, IfSome, IsTrue, OnOk, MatchOption, None, Some, length, map};
+ghost use Rattle.std.specs.Prelude.{◌≡◌, ◌<◌, ◌++◌, ◌∷◌, [], ℕ, List, Bool, IfOk, IfSome, OnOk, MatchOption, None, Some, length, map};
 ghost use Rattle.std.specs.List.{AllByRecursion};
 ghost use Rattle.kn_cnf.specs.declared.clauses.Lit.{Lit};
 ghost use Rattle.kn_cnf.specs.Formulas.{items_of, AreBelow};
 ghost use Rattle.kn_cnf.specs.Units.{valued, lit_value};
 ghost use Rattle.kn_sat.specs.Trails.{latest, IsGrown};
-ghost use Rattle.kn_sat.specs.Standings.{Means, IsConflict, IsVisited, IsScanned, AreCalm, AreAssigned};
+ghost use Rattle.kn_sat.specs.Standings.{Means, IsConflict, IsVisited, IsScanned, IsSettled, IsFirstOpen, AreAssigned};
 
 use crate::occurrences::Occurrences;
 use crate::trail::{Reason, Trail};
@@ -88,8 +88,8 @@ fn visit_each(
     Ok(None)
 }
 
-/// Visits the clauses in which a literal became false, for each literal of the trail from this place on. The answer is the
-/// number of the first false clause.
+/// Visits the clauses in which a literal became false, for each literal of the trail from this place on, and before the
+/// first one the clauses that may be unit by themselves. The answer is the number of the first false clause.
 fn follow(
     trail: &mut Trail,
     clauses: &[Clause],
@@ -102,6 +102,9 @@ fn follow(
     ensures grown { OnOk result (IsGrown (map items_of clauses.now) trail.old.vars trail.old.entries trail.new.entries) }
     ensures conflict { IfOk result (λ o. IfSome o (IsConflict (map items_of clauses.now) trail.new.entries)) }
 {
+    if let Some(number) = visit_each(trail, clauses, occurrences.before(from))? {
+        return Ok(Some(number));
+    }
     let mut head = from;
     while head < trail.entries().len() {
         let literal = trail.entries()[head].literal;
@@ -143,11 +146,12 @@ fn visit_all(trail: &mut Trail, clauses: &[Clause]) -> Result<Scan, AllocError>
     Ok(if calm { Scan::Calm } else { Scan::Grown })
 }
 
-/// The first input that is open.
-pub(crate) fn open_input(trail: &Trail, inputs: usize) -> Option<usize>
-    ensures { MatchOption result (AreAssigned inputs (latest trail.now.entries)) (λ q. (q < inputs) × (valued (latest trail.now.entries) q ≡ None) × AreAssigned q (latest trail.now.entries)) }
+/// The first input that is open, where those before this one are assigned.
+fn open_input(trail: &Trail, inputs: usize, from: usize) -> Option<usize>
+    requires { AreAssigned from (latest trail.now.entries) }
+    ensures { MatchOption result (AreAssigned inputs (latest trail.now.entries)) (IsFirstOpen inputs (latest trail.now.entries)) }
 {
-    for var in 0..inputs {
+    for var in from..inputs {
         if trail.value(Lit { var, neg: false }).is_none() {
             return Some(var);
         }
@@ -155,46 +159,45 @@ pub(crate) fn open_input(trail: &Trail, inputs: usize) -> Option<usize>
     None
 }
 
-/// Whether some literal is assigned, and some input is open.
-fn is_waiting(trail: &Trail, inputs: usize) -> bool
-    ensures { IsTrue result → AreAssigned inputs (latest trail.now.entries) → ⊥ }
-{
-    if trail.entries().is_empty() {
-        return false;
-    }
-    match open_input(trail, inputs) {
-        Some(_) => true,
-        None => false,
-    }
+/// Where unit propagation came to.
+#[derive(Clone, Copy, Debug)]
+pub(crate) enum Settled {
+    /// The clause with this number is false.
+    Conflict(usize),
+    /// No clause was found false, and this is the first open input.
+    Open(usize),
+    /// Each input is assigned, and no clause is false or unit.
+    Calm,
 }
 
-/// Propagates units behind the latest literal. The answer is the number of a false clause, if one is met; where none is
-/// and each input is assigned, no clause is false or unit.
+/// Propagates units behind the latest literal. The inputs before `next` are assigned.
 pub(crate) fn settle(
     trail: &mut Trail,
     clauses: &[Clause],
     occurrences: &Occurrences,
     inputs: usize,
-) -> Result<Option<usize>, AllocError>
+    next: usize,
+) -> Result<Settled, AllocError>
     requires below { AreBelow trail.old.vars (map items_of clauses.now) }
     requires count { occurrences.now.clauses ≡ length clauses.now }
+    requires next { AreAssigned next (latest trail.old.entries) }
     ensures vars { trail.new.vars ≡ trail.old.vars }
     ensures grown { OnOk result (IsGrown (map items_of clauses.now) trail.old.vars trail.old.entries trail.new.entries) }
-    ensures settled { IfOk result (λ o. MatchOption o (AreAssigned inputs (latest trail.new.entries) → AreCalm (map items_of clauses.now) trail.new.entries) (IsConflict (map items_of clauses.now) trail.new.entries)) }
+    ensures settled { IfOk result (IsSettled (map items_of clauses.now) inputs trail.new.entries) }
 {
     let mut head = trail.entries().len().saturating_sub(1);
     'settle: loop {
         if let Some(number) = follow(trail, clauses, occurrences, head)? {
-            return Ok(Some(number));
+            return Ok(Settled::Conflict(number));
         }
-        if is_waiting(trail, inputs) {
-            return Ok(None);
+        if let Some(var) = open_input(trail, inputs, next) {
+            return Ok(Settled::Open(var));
         }
         head = trail.entries().len();
         match visit_all(trail, clauses)? {
-            Scan::Conflict(number) => return Ok(Some(number)),
+            Scan::Conflict(number) => return Ok(Settled::Conflict(number)),
             Scan::Grown => {}
-            Scan::Calm => return Ok(None),
+            Scan::Calm => return Ok(Settled::Calm),
         }
     }
 }

@@ -12,7 +12,7 @@ ghost use Rattle.kn_sat.specs.Answers.{OnModel, OnClosed, OnSpent, Answers};
 
 use crate::closing::close;
 use crate::occurrences::Occurrences;
-use crate::propagation::{open_input, settle};
+use crate::propagation::{Settled, settle};
 use crate::trail::{Reason, Trail};
 use kn_cnf::{Clause, Cnf, Line, Lit, Log};
 use std::alloc::{AllocError, Global};
@@ -74,21 +74,24 @@ fn run(
     let mut trail = Trail::new(alloc, vars)?;
     let mut lines: Vec<Line> = Vec::new(alloc);
     let mut leaves = 0;
+    let mut next = 0;
     'search: loop {
-        match settle(&mut trail, clauses, &occurrences, inputs)? {
-            Some(conflict) => {
-                if !close(&mut trail, clauses, &mut lines, conflict)? {
+        match settle(&mut trail, clauses, &occurrences, inputs, next)? {
+            Settled::Conflict(number) => {
+                let Some(var) = close(&mut trail, clauses, &mut lines, number)? else {
                     return Ok(Found::Closed(Log { lines }));
-                }
+                };
                 leaves += 1;
                 if leaves == budget {
                     return Ok(Found::Spent(leaves));
                 }
+                next = var;
             }
-            None => match open_input(&trail, inputs) {
-                Some(var) => trail.assign(Lit { var, neg: true }, Reason::Decision)?,
-                None => return Ok(Found::Model(bits_of(alloc, &trail, inputs)?)),
-            },
+            Settled::Open(var) => {
+                trail.assign(Lit { var, neg: true }, Reason::Decision)?;
+                next = var;
+            }
+            Settled::Calm => return Ok(Found::Model(bits_of(alloc, &trail, inputs)?)),
         }
     }
 }

@@ -6,17 +6,19 @@ use Rattle.kn_sat.specs.Order.{spelled}
 use Rattle.kn_sat.proofs.Numbers.{rank-below}
 use Rattle.kn_sat.proofs.Closes.{lines_of}
 use Rattle.kn_sat.proofs.Counts.{count_open-le}
-use Rattle.kn_sat.proofs.Refuted.{refuted, refuted_lower, model, stands_grown, spelled_grown, stands_decided, spelled_decided, count_decided, conflict_later, spent_less}
+use Rattle.kn_sat.proofs.Refuted.{refuted, refuted_lower, model, stands_grown, spelled_grown, stands_decided, spelled_decided, assigned_decided, count_decided, conflict_later, spent_less}
 use Rattle.kn_sat.proofs.searching.run.Goals as goal
 
-pub returns-then-not-branch : goal.returns-then-not-branch
-returns-then-not-branch c =
+pub returns-in_default : goal.returns-in_default
+returns-in_default c =
     let cs = map items_of c.args.clauses.now in
+    let n = c.args.inputs in
+    let old = (c.search.trail).entries in
     let mid = (c.settle.new.trail).entries in
-    let grown = c.in_ok-conflict.ensures.grown in
-    let stands = stands_grown c.args.inputs (c.search.trail).vars cs c.search.lines.items (c.search.trail).entries mid c.search.invariant.stands grown in
-    let conflict = conflict_later cs (lines_of c.search.lines.items) mid c.in-Some.conflict (rw c.in-Some.is at c.in_ok-conflict.ensures.settled) in
-    rw c.if-not-branch.true at (c.in_ok-close-in-Some.ensures.closed c.args.inputs stands conflict)
+    let grown = c.in_ok-number.ensures.grown in
+    let stands = stands_grown n (c.search.trail).vars cs c.search.lines.items old mid c.search.invariant.stands grown in
+    let conflict = conflict_later cs (lines_of c.search.lines.items) mid c.in-Conflict.number (rw c.in-Conflict.is at c.in_ok-number.ensures.settled) in
+    rw c.in_default.is at (c.in_ok-var-in-Conflict.ensures.closed n stands conflict)
 
 pub returns-then-leaves-budget : goal.returns-then-leaves-budget
 returns-then-leaves-budget c =
@@ -24,48 +26,54 @@ returns-then-leaves-budget c =
     let n = c.args.inputs in
     let old = (c.search.trail).entries in
     let mid = (c.settle.new.trail).entries in
-    let new = (c.close.new.trail).entries in
-    let grown = c.in_ok-conflict.ensures.grown in
+    let grown = c.in_ok-number.ensures.grown in
     let stands = stands_grown n (c.search.trail).vars cs c.search.lines.items old mid c.search.invariant.stands grown in
-    let conflict = conflict_later cs (lines_of c.search.lines.items) mid c.in-Some.conflict (rw c.in-Some.is at c.in_ok-conflict.ensures.settled) in
-    let closed = rw c.if-not-branch.false at (c.in_ok-close-in-Some.ensures.closed n stands conflict) in
+    let conflict = conflict_later cs (lines_of c.search.lines.items) mid c.in-Conflict.number (rw c.in-Conflict.is at c.in_ok-number.ensures.settled) in
+    let closed = rw c.in-Some.is at (c.in_ok-var-in-Conflict.ensures.closed n stands conflict) in
+    let new = (c.close.new.trail).entries in
     let later = spelled_grown n (c.search.trail).vars cs old mid grown in
-    let enough : c.args.budget ≤ spelled n (latest new) = omega (arith, c.search.invariant.counted, later, closed.1, c.if-leaves-budget.true) in
-    (c.if-leaves-budget.true, omega (arith, enough, rank-below (bit (latest new)) 0 n), refuted_lower n cs c.args.budget (spelled n (latest new)) enough (refuted n cs c.close.new.lines.items new closed.0))
+    let enough : c.args.budget ≤ spelled n (latest new) = omega (arith, c.search.invariant.counted, later, closed.later, c.if-leaves-budget.true) in
+    (c.if-leaves-budget.true, omega (arith, enough, rank-below (bit (latest new)) 0 n), refuted_lower n cs c.args.budget (spelled n (latest new)) enough (refuted n cs c.close.new.lines.items new closed.stands))
 
-pub search-smaller-else-leaves-budget : goal.search-smaller-else-leaves-budget
-search-smaller-else-leaves-budget c =
+pub search-smaller-in-Conflict : goal.search-smaller-in-Conflict
+search-smaller-in-Conflict c =
     let new = (c.close.new.trail).entries in
     let old = (c.search.trail).entries in
     spent_less c.args.budget c.search.leaves c.args.vars (count_open c.args.vars (latest new)) (count_open c.args.vars (latest old)) c.search.invariant.left (count_open-le c.args.vars (latest new))
 
-pub search-preserved-else-leaves-budget : goal.search-preserved-else-leaves-budget
-search-preserved-else-leaves-budget c =
+pub search-preserved-in-Conflict : goal.search-preserved-in-Conflict
+search-preserved-in-Conflict c =
     let cs = map items_of c.args.clauses.now in
     let n = c.args.inputs in
     let old = (c.search.trail).entries in
     let mid = (c.settle.new.trail).entries in
-    let new = (c.close.new.trail).entries in
-    let grown = c.in_ok-conflict.ensures.grown in
+    let grown = c.in_ok-number.ensures.grown in
     let stands = stands_grown n (c.search.trail).vars cs c.search.lines.items old mid c.search.invariant.stands grown in
-    let conflict = conflict_later cs (lines_of c.search.lines.items) mid c.in-Some.conflict (rw c.in-Some.is at c.in_ok-conflict.ensures.settled) in
-    let closed = rw c.if-not-branch.false at (c.in_ok-close-in-Some.ensures.closed n stands conflict) in
+    let conflict = conflict_later cs (lines_of c.search.lines.items) mid c.in-Conflict.number (rw c.in-Conflict.is at c.in_ok-number.ensures.settled) in
+    let closed = rw c.in-Some.is at (c.in_ok-var-in-Conflict.ensures.closed n stands conflict) in
+    let new = (c.close.new.trail).entries in
     let later = spelled_grown n (c.search.trail).vars cs old mid grown in
     record {
       vars = c.close.ensures.vars ∙ (c.settle.ensures.vars ∙ c.search.invariant.vars);
-      stands = closed.0;
-      counted = omega (arith, c.search.invariant.counted, later, closed.1);
+      stands = closed.stands;
+      counted = omega (arith, c.search.invariant.counted, later, closed.later);
+      next = closed.before;
       left = omega (arith, c.search.invariant.left, c.if-leaves-budget.false);
     }
 
 pub search-smaller : goal.search-smaller
 search-smaller c =
     let cs = map items_of c.args.clauses.now in
+    let n = c.args.inputs in
     let old = (c.search.trail).entries in
     let mid = (c.settle.new.trail).entries in
+    let grown = c.in_ok-number.ensures.grown in
+    let at = rw c.in-Open.is at c.in_ok-number.ensures.settled in
+    let q = c.in-Open.var in
     let new = (c.assign.new.self).entries in
-    let grown = c.in_ok-conflict.ensures.grown in
-    let fewer = count_decided c.args.inputs c.args.vars cs c.search.lines.items mid new c.in-Some-open_input.var (c.in-Some-open_input.ensures).0 (omega (arith, (c.in-Some-open_input.ensures).0, c.requires.inputs)) (c.in-Some-open_input.ensures).1 (c.in-Some-open_input.ensures).2 c.in_ok-assign-in-Some-open_input.ensures.entries in
+    let inside : q < c.args.vars = omega (arith, at.input, c.requires.inputs) in
+    let is = c.in_ok-assign-in-Open.ensures.entries in
+    let fewer = count_decided n c.args.vars cs c.search.lines.items mid new q at.input inside at.opens at.before is in
     let count = subst (λ k. count_open k (latest mid) + length mid ≡ count_open k (latest old) + length old) c.search.invariant.vars grown.count in
     omega (arith, fewer, count, grown.longer)
 
@@ -75,28 +83,29 @@ search-preserved c =
     let n = c.args.inputs in
     let old = (c.search.trail).entries in
     let mid = (c.settle.new.trail).entries in
-    let new = (c.assign.new.self).entries in
-    let grown = c.in_ok-conflict.ensures.grown in
+    let grown = c.in_ok-number.ensures.grown in
     let stands = stands_grown n (c.search.trail).vars cs c.search.lines.items old mid c.search.invariant.stands grown in
+    let at = rw c.in-Open.is at c.in_ok-number.ensures.settled in
+    let q = c.in-Open.var in
+    let new = (c.assign.new.self).entries in
+    let inside : q < c.args.vars = omega (arith, at.input, c.requires.inputs) in
+    let is = c.in_ok-assign-in-Open.ensures.entries in
     let later = spelled_grown n (c.search.trail).vars cs old mid grown in
-    let q = c.in-Some-open_input.var in
-    let at = c.in-Some-open_input.ensures in
-    let inside : q < c.args.vars = omega (arith, at.0, c.requires.inputs) in
     record {
       vars = c.assign.ensures.vars ∙ (c.settle.ensures.vars ∙ c.search.invariant.vars);
-      stands = stands_decided n c.args.vars cs c.search.lines.items mid new q at.0 inside at.1 at.2 c.in_ok-assign-in-Some-open_input.ensures.entries stands;
-      counted = omega (arith, c.search.invariant.counted, later, spelled_decided n c.args.vars cs c.search.lines.items mid new q at.0 inside at.1 at.2 c.in_ok-assign-in-Some-open_input.ensures.entries);
+      stands = stands_decided n c.args.vars cs c.search.lines.items mid new q at.input inside at.opens at.before is stands;
+      counted = omega (arith, c.search.invariant.counted, later, spelled_decided n c.args.vars cs c.search.lines.items mid new q at.input inside at.opens at.before is);
+      next = assigned_decided n c.args.vars cs c.search.lines.items mid new q at.input inside at.opens at.before is;
       left = c.search.invariant.left;
     }
 
-pub returns-in-None-open_input : goal.returns-in-None-open_input
-returns-in-None-open_input c =
+pub returns-in-Calm : goal.returns-in-Calm
+returns-in-Calm c =
     let cs = map items_of c.args.clauses.now in
     let n = c.args.inputs in
     let old = (c.search.trail).entries in
     let mid = (c.settle.new.trail).entries in
-    let grown = c.in_ok-conflict.ensures.grown in
+    let grown = c.in_ok-number.ensures.grown in
     let stands = stands_grown n (c.search.trail).vars cs c.search.lines.items old mid c.search.invariant.stands grown in
-    let calm = rw c.in-None.is at c.in_ok-conflict.ensures.settled in
-    let all = c.in-None-open_input.ensures in
-    model n c.args.vars cs c.search.lines.items mid c.in_ok-bits_of-in-None-open_input.field-0.items c.requires.below c.requires.decided stands (calm all) all c.in_ok-bits_of-in-None-open_input.ensures
+    let settled = rw c.in-Calm.is at c.in_ok-number.ensures.settled in
+    model n c.args.vars cs c.search.lines.items mid c.in_ok-bits_of-in-Calm.field-0.items c.requires.below c.requires.decided stands settled.1 settled.0 c.in_ok-bits_of-in-Calm.ensures

@@ -2,7 +2,7 @@
 use Rattle.std.proofs.Common.{◌≡◌, ◌+◌, ◌-◌, ◌*◌, ◌<◌, ◌≤◌, map}
 use Rattle.kn_cnf.specs.Formulas.{items_of}
 use Rattle.kn_sat.specs.Trails.{latest, count_open}
-use Rattle.kn_sat.specs.Standings.{Stands}
+use Rattle.kn_sat.specs.Standings.{AreAssigned, Stands}
 use Rattle.kn_sat.specs.Order.{spelled}
 use Rattle.kn_sat.proofs.searching.run.Given as goal
 
@@ -11,6 +11,7 @@ invariant-search l = record {
   vars : (l.trail).vars ≡ l.vars;
   stands : Stands l.inputs (map items_of l.clauses) l.lines.items (l.trail).entries;
   counted : l.leaves ≤ spelled l.inputs (latest (l.trail).entries);
+  next : AreAssigned l.next (latest (l.trail).entries);
   left : l.leaves < l.budget;
 }
 

@@ -6,9 +6,13 @@ use Rattle.kn_cnf.proofs.Spreading.{assigned_value}
 use Rattle.kn_sat.proofs.tests.search_all.Goals as goal
 
 whole : (n : ℕ) (f : Formula) → n ≡ f.vars → IsDecided n f
-whole n f same bits long = ([], tt, inl (λ q low.
-    let e : 0 + q ≡ q = omega arith in
-    (get_or bits q false, ap (valued (assigned_from 0 bits)) (sym e) ∙ assigned_value 0 bits q (omega (arith, low, same, long)))))
+whole n f same bits long = (
+  [],
+  tt,
+  inl (λ q low.
+      let e : 0 + q ≡ q = omega arith in
+      (get_or bits q false, ap (valued (assigned_from 0 bits)) (sym e) ∙ assigned_value 0 bits q (omega (arith, low, same, long)))),
+)
 
 pub search-requires-clause-decided : goal.search-requires-clause-decided
 search-requires-clause-decided c = whole c.cnf.inside.vars c.args.cnf.now (ap (λ (f : Formula). f.vars) c.cnf.view_is)
