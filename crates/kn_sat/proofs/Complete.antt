@@ -1,5 +1,5 @@
 -- Where each input is assigned and no clause is false or unit, all clauses are met.
-use Rattle.std.proofs.Common.{◌≡◌, ◌≢◌, ℕ, zero, suc, ◌+◌, ◌<◌, ◌≤◌, Bool, true, false, not, ◌||◌, ◌&&◌, List, [], ◌∷◌, ◌++◌, length, get_or, refl, ap, sym, subst, ◌∙◌, inl, inr, arith}
+use Rattle.std.proofs.Common.{◌≡◌, ℕ, zero, suc, ◌+◌, ◌<◌, Bool, true, false, not, ◌||◌, ◌&&◌, List, [], ◌∷◌, ◌++◌, length, get_or, refl, ap, sym, subst, ◌∙◌, inl, inr, arith}
 use Rattle.std.specs.Prelude.{Some, None, slice_get, ◌⊎◌, if◌then◌else◌, unwrap_or}
 use Rattle.std.specs.declared.option.Option.{Option}
 use Rattle.std.specs.Option.{option_map}
@@ -9,7 +9,7 @@ use Rattle.kn_cnf.specs.declared.clauses.Lit.{Lit}
 use Rattle.kn_cnf.specs.Encoding.{bits_from}
 use Rattle.kn_cnf.specs.Formulas.{AreBelow}
 use Rattle.kn_cnf.specs.Truth.{lit_true, clause_true, all_true, Meets}
-use Rattle.kn_cnf.specs.Units.{valued, lit_value, Has, IsFalse, IsUnit, HasClause, IsPropagated, IsCompleted, IsRefuted, assigned_from, IsDecided}
+use Rattle.kn_cnf.specs.Units.{valued, lit_value, Has, IsFalse, IsUnit, HasClause, IsPropagated, IsRefuted, assigned_from, IsDecided}
 use Rattle.kn_cnf.proofs.Spreading.{assigned_value, assigned_none}
 use Rattle.kn_unsat.proofs.Steps.{same_or_not}
 use Rattle.kn_sat.specs.declared.trail.Assigned.{Assigned}

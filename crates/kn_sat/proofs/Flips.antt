@@ -1,7 +1,6 @@
 -- After a conflict the latest decision is turned.
-use Rattle.std.proofs.Common.{◌≡◌, ◌≢◌, ℕ, ◌<◌, Bool, true, false, not, List, [], ◌∷◌, ◌++◌, append-nil, append_assoc, refl, ap, sym, subst, ◌∙◌, inl, inr, arith}
-use Rattle.std.specs.Prelude.{Some, None, slice_get, ◌⊎◌, if◌then◌else◌, unwrap_or}
-use Rattle.std.specs.declared.option.Option.{Option}
+use Rattle.std.proofs.Common.{◌≡◌, ◌≢◌, ℕ, ◌<◌, Bool, true, false, not, List, [], ◌∷◌, ◌++◌, refl, ap, sym, subst, ◌∙◌, inl, inr, arith}
+use Rattle.std.specs.Prelude.{Some, None, slice_get, if◌then◌else◌, unwrap_or}
 use Rattle.std.specs.Option.{option_map}
 use Rattle.kn_cnf.specs.declared.clauses.Lit.{Lit}
 use Rattle.kn_cnf.specs.Units.{negated, valued, lit_value, Has, IsUnit}
@@ -9,10 +8,10 @@ use Rattle.kn_unsat.proofs.Steps.{has_more, has_last}
 use Rattle.kn_sat.specs.declared.trail.Assigned.{Assigned}
 use Rattle.kn_sat.specs.declared.trail.Reason.{Reason}
 use Rattle.kn_sat.specs.declared.trail.Reason.TheVariants as reasons
-use Rattle.kn_sat.specs.Trails.{onto, latest, bit, IsDecision, IsReason, IsTrail, IsFlipped, undecided, with_decision}
+use Rattle.kn_sat.specs.Trails.{onto, latest, bit, IsDecision, IsTrail, IsFlipped, undecided, with_decision}
 use Rattle.kn_sat.specs.Standings.{AreAssigned}
 use Rattle.kn_sat.proofs.Numbers.{Later}
-use Rattle.kn_sat.proofs.Trails.{valued_own, valued_other, lit_opens, onto_kept, onto_more, onto_append, trail_front, trail_more, trail_kept, clause_kept}
+use Rattle.kn_sat.proofs.Trails.{valued_own, valued_other, lit_opens, onto_kept, onto_more, onto_append, trail_front, trail_more, trail_kept}
 
 -- the negations of two parts
 undecided_append : (es fs : List Assigned) → undecided (es ++ fs) ≡ undecided es ++ undecided fs

@@ -1,11 +1,11 @@
 -- The line of a conflict is good: the decisions first, and then the literals that follow, in order.
-use Rattle.std.proofs.Common.{◌≡◌, ◌≢◌, ℕ, ◌<◌, Bool, true, false, not, List, [], ◌∷◌, ◌++◌, refl, ap, sym, subst, ◌∙◌, inl, inr}
-use Rattle.std.specs.Prelude.{Some, None, slice_get, ◌⊎◌, if◌then◌else◌}
+use Rattle.std.proofs.Common.{◌≡◌, ◌≢◌, ℕ, Bool, false, not, List, [], ◌∷◌, ◌++◌, refl, ap, sym, subst, ◌∙◌, inl, inr}
+use Rattle.std.specs.Prelude.{Some, None, slice_get}
 use Rattle.std.specs.declared.option.Option.{Option}
 use Rattle.std.proofs.lemmas.Bool.{cases_eq}
 use Rattle.kn_cnf.specs.declared.clauses.Lit.{Lit}
-use Rattle.kn_cnf.specs.Units.{negated, valued, lit_value, Has, IsFalse, IsUnit}
-use Rattle.kn_unsat.specs.Good.{falsified, HasBoth, Refutes, IsGood}
+use Rattle.kn_cnf.specs.Units.{negated, valued, Has, IsFalse, IsUnit}
+use Rattle.kn_unsat.specs.Good.{falsified, Refutes, IsGood}
 use Rattle.kn_unsat.proofs.Falsified.{twice}
 use Rattle.kn_sat.specs.declared.trail.Assigned.{Assigned}
 use Rattle.kn_sat.specs.declared.trail.Reason.{Reason}

@@ -1,16 +1,16 @@
 -- Values that meet the clauses do not come before what a trail assigns.
-use Rattle.std.proofs.Common.{◌≡◌, ◌≢◌, ℕ, ◌<◌, ◌≤◌, Bool, true, false, not, List, [], ◌∷◌, ◌++◌, refl, ap, sym, subst, ◌∙◌, inl, inr, arith}
+use Rattle.std.proofs.Common.{◌≡◌, ℕ, ◌≤◌, Bool, true, false, not, List, [], ◌∷◌, refl, ap, sym, ◌∙◌, inl, inr, arith}
 use Rattle.std.specs.Prelude.{Some, None, slice_get, ◌⊎◌, if◌then◌else◌, unwrap_or}
 use Rattle.std.proofs.lemmas.Bool.{cases_Bool}
 use Rattle.kn_cnf.specs.declared.clauses.Lit.{Lit}
 use Rattle.kn_cnf.specs.Truth.{lit_true, clause_true, Meets}
-use Rattle.kn_cnf.specs.Units.{valued, lit_value, Has, IsFalse, IsUnit}
+use Rattle.kn_cnf.specs.Units.{valued, IsFalse, IsUnit}
 use Rattle.kn_unsat.proofs.Sound.{AllTrue, valued_so, valued_has, false_under, true_literal, met_at}
 use Rattle.kn_unsat.proofs.Steps.{same_or_not}
 use Rattle.kn_sat.specs.declared.trail.Assigned.{Assigned}
 use Rattle.kn_sat.specs.declared.trail.Reason.{Reason}
 use Rattle.kn_sat.specs.declared.trail.Reason.TheVariants as reasons
-use Rattle.kn_sat.specs.Trails.{onto, IsDecision, IsReason, IsTrail, bit}
+use Rattle.kn_sat.specs.Trails.{onto, IsReason, IsTrail, bit}
 use Rattle.kn_sat.proofs.Numbers.{Later, rank, later_lt, rank_le}
 use Rattle.kn_sat.proofs.Trails.{valued_own, onto_kept}
 

@@ -1,6 +1,6 @@
 -- What the lines and the trail refute.
-use Rattle.std.proofs.Common.{◌≡◌, ℕ, zero, suc, ◌+◌, ◌-◌, ◌*◌, ◌<◌, ◌≤◌, ◌^◌, Bool, true, false, List, [], ◌∷◌, ◌++◌, length, refl, ap, sym, subst, ◌∙◌, arith}
-use Rattle.std.specs.Prelude.{Some, None, unwrap_or, slice_get}
+use Rattle.std.proofs.Common.{◌≡◌, ℕ, suc, ◌+◌, ◌-◌, ◌*◌, ◌<◌, ◌≤◌, Bool, true, false, List, [], ◌∷◌, ◌++◌, length, refl, ap, sym, subst, ◌∙◌, arith}
+use Rattle.std.specs.Prelude.{Some, None, unwrap_or}
 use Rattle.std.specs.declared.option.Option.{Option}
 use Rattle.std.proofs.Math.Nat.{suc-mul}
 use Rattle.kn_cnf.specs.declared.clauses.Lit.{Lit}
@@ -8,9 +8,8 @@ use Rattle.kn_cnf.specs.Encoding.{bits_from}
 use Rattle.kn_cnf.specs.Formulas.{Step, AreBelow}
 use Rattle.kn_cnf.specs.Units.{valued, IsDecided}
 use Rattle.kn_sat.specs.declared.trail.Assigned.{Assigned}
-use Rattle.kn_sat.specs.declared.trail.Reason.{Reason}
 use Rattle.kn_sat.specs.declared.trail.Reason.TheVariants as reasons
-use Rattle.kn_sat.specs.Trails.{latest, bit, IsTrail, IsDecision, IsGrown, count_open}
+use Rattle.kn_sat.specs.Trails.{latest, bit, IsTrail, IsGrown, count_open}
 use Rattle.kn_sat.specs.Standings.{AreCalm, AreAssigned, IsConflict, Stands}
 use Rattle.kn_sat.specs.Order.{number, spelled, Extends, AreRefuted}
 use Rattle.kn_cnf.specs.Truth.{AreNeverMet}
@@ -22,7 +21,7 @@ use Rattle.kn_sat.proofs.Numbers.{rank_le, length-bits_from}
 use Rattle.kn_sat.proofs.Positions.{not_before}
 use Rattle.kn_sat.proofs.Closes.{lines_of, lines_met}
 use Rattle.kn_sat.proofs.Complete.{meets}
-use Rattle.kn_sat.proofs.Counts.{count_open-le, count_less}
+use Rattle.kn_sat.proofs.Counts.{count_less}
 use Rattle.kn_sat.proofs.Trails.{onto_more, trail_more, valued_kept, clause_kept}
 
 -- nothing before the trail extends to values that meet the clauses

@@ -78,7 +78,8 @@ count_open (suc k) ls = open_count (valued ls k) + count_open k ls
 abbrev pub bit : List Lit → ℕ → Bool
 bit ls q = unwrap_or (valued ls q) false
 
--- the trail grew by open literals of unit clauses
+-- the trail grew by literals of unit clauses: it is one wherever it was, what was assigned stays so, and each literal more is
+-- an open variable less
 pub record IsGrown (cs : List (List Lit)) (vars : ℕ) (old new : List Assigned) : Type 0 where
   pub trail : (ds : List (List Lit)) (n : ℕ) → IsTrail (cs ++ ds) n [] old → IsTrail (cs ++ ds) n [] new
   pub kept : (q : ℕ) (b : Bool) → valued (latest old) q ≡ Some b → valued (latest new) q ≡ Some b

@@ -1,7 +1,7 @@
 -- The clauses' variables are the trail's, and what is assigned stays so.
 use Rattle.std.proofs.Common.{map, subst, sym, ◌∙◌}
 use Rattle.kn_cnf.specs.Formulas.{items_of, AreBelow}
-use Rattle.kn_sat.proofs.Counts.{assigned_grown, grown_twice}
+use Rattle.kn_sat.proofs.Counts.{assigned_grown}
 use Rattle.kn_sat.proofs.propagation.settle.Goals as goal
 
 pub open_input-requires : goal.open_input-requires

@@ -1,9 +1,9 @@
 -- A clause that was found calm before its end.
-use Rattle.std.proofs.Common.{◌+◌, List, false, take, get_or, sym, subst}
+use Rattle.std.proofs.Common.{◌+◌, false, take, sym, subst}
 use Rattle.std.proofs.lemmas.List.{take_more}
 use Rattle.kn_cnf.specs.declared.clauses.Lit.{Lit}
 use Rattle.kn_sat.specs.Trails.{latest}
-use Rattle.kn_sat.specs.Standings.{Means, IsCalm}
+use Rattle.kn_sat.specs.Standings.{IsCalm}
 use Rattle.kn_sat.proofs.Clauses.{calm_whole}
 use Rattle.kn_sat.proofs.propagation.standing_of.Goals as goal
 

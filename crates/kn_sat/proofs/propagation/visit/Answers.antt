@@ -1,5 +1,5 @@
 -- A clause that is unit, and one that is not.
-use Rattle.std.proofs.Common.{List, map, subst, refl, arith}
+use Rattle.std.proofs.Common.{List, map, subst, refl}
 use Rattle.kn_cnf.specs.declared.clauses.Lit.{Lit}
 use Rattle.kn_cnf.specs.Formulas.{items_of}
 use Rattle.kn_cnf.specs.Units.{IsUnit}

@@ -1,5 +1,5 @@
 -- Where each variable is an input, each assignment of the inputs is complete.
-use Rattle.std.proofs.Common.{◌≡◌, ℕ, ◌+◌, ◌<◌, Bool, false, List, [], length, get_or, ap, sym, ◌∙◌, inl, arith}
+use Rattle.std.proofs.Common.{◌≡◌, ℕ, ◌+◌, false, [], get_or, ap, sym, ◌∙◌, inl, arith}
 use Rattle.kn_cnf.specs.Formulas.{Formula}
 use Rattle.kn_cnf.specs.Units.{valued, assigned_from, IsDecided}
 use Rattle.kn_cnf.proofs.Spreading.{assigned_value}

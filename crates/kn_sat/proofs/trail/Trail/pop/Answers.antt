@@ -1,6 +1,6 @@
 -- The values with the latest literal taken back.
 use Rattle.kn_sat.proofs.Values.{values_less, last_opened}
-use Rattle.std.proofs.Common.{◌<◌, length, arith, subst, sym}
+use Rattle.std.proofs.Common.{◌<◌, arith, subst, sym}
 use Rattle.std.proofs.lemmas.List.{length-set}
 use Rattle.std.specs.Prelude.{None, ℕ}
 use Rattle.kn_sat.proofs.trail.Trail.pop.Goals as goal
