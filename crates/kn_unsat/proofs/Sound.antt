@@ -12,7 +12,7 @@ use Rattle.kn_unsat.specs.Good.{falsified, Refutes, IsGood, AreGood, Checks}
 use Rattle.kn_unsat.proofs.Steps.{same_or_not, open_false}
 
 -- each of these literals is true
-abbrev AllTrue : (ℕ → Bool) → List Lit → Type 0
+abbrev pub AllTrue : (ℕ → Bool) → List Lit → Type 0
 AllTrue v ls = (l : Lit) → Has ls l → lit_true v l ≡ true
 
 negated_true : (v : ℕ → Bool) (l : Lit) → lit_true v (negated l) ≡ not (lit_true v l)
@@ -46,7 +46,7 @@ valued_has (l ∷ ls) q b e =
     built false false e = absurd cc
 
 -- a literal that is assigned false is false where what is assigned is true
-false_under : (v : ℕ → Bool) (ls : List Lit) (m : Lit) → AllTrue v ls → lit_value ls m ≡ Some false → lit_true v m ≡ false
+pub false_under : (v : ℕ → Bool) (ls : List Lit) (m : Lit) → AllTrue v ls → lit_value ls m ≡ Some false → lit_true v m ≡ false
 false_under v ls m all e = go (valued ls m.var) refl e
   where
     from_variable : (n b : Bool) → v m.var ≡ b → Some (if n then not b else b) ≡ Some false → (if n then not (v m.var) else v m.var) ≡ false
@@ -68,7 +68,7 @@ false_under v ls m all e = go (valued ls m.var) refl e
     go (Some b) is h = from_variable m.neg b (variable b (all (valued_so m.var b) (valued_has ls m.var b is))) (sym (ap (option_map (λ b. if m.neg then not b else b)) is) ∙ h)
 
 -- a true clause has a true literal
-true_literal : (v : ℕ → Bool) (c : List Lit) → clause_true v c ≡ true → (l : Lit) × Has c l × (lit_true v l ≡ true)
+pub true_literal : (v : ℕ → Bool) (c : List Lit) → clause_true v c ≡ true → (l : Lit) × Has c l × (lit_true v l ≡ true)
 true_literal v [] e = absurd cc
 true_literal v (m ∷ ms) e =
     elim (cases_Bool (lit_true v m)) [
@@ -109,7 +109,7 @@ refuted_never v cs ls (h ∷ k ∷ hs) meets all r =
     refuted_never v cs (r.1 ∷ ls) (k ∷ hs) meets more r.4
 
 -- the literals of a false clause, turned, are true
-falsified_true : (v : ℕ → Bool) (ls c : List Lit) → AllTrue v ls → clause_true v c ≡ false → AllTrue v (falsified ls c)
+pub falsified_true : (v : ℕ → Bool) (ls c : List Lit) → AllTrue v ls → clause_true v c ≡ false → AllTrue v (falsified ls c)
 falsified_true v ls [] all e = all
 falsified_true v ls (m ∷ ms) all e =
     let parts = neither (lit_true v m) (clause_true v ms) e in
@@ -121,7 +121,7 @@ falsified_true v ls (m ∷ ms) all e =
     neither true b e = absurd cc
 
 -- the clause of a good line is true wherever the clauses before it are
-good_follows : (v : ℕ → Bool) (cs : List (List Lit)) (s : Step) → IsGood cs s → Meets v cs → clause_true v s.clause ≡ true
+pub good_follows : (v : ℕ → Bool) (cs : List (List Lit)) (s : Step) → IsGood cs s → Meets v cs → clause_true v s.clause ≡ true
 good_follows v cs s good meets =
     elim (cases_Bool (clause_true v s.clause)) [
       | inl is ↦ is
@@ -129,7 +129,7 @@ good_follows v cs s good meets =
     ]
 
 -- clauses that are met, with one more
-meets_more : (v : ℕ → Bool) (cs : List (List Lit)) (c : List Lit) → Meets v cs → clause_true v c ≡ true → Meets v (cs ++ c ∷ [])
+pub meets_more : (v : ℕ → Bool) (cs : List (List Lit)) (c : List Lit) → Meets v cs → clause_true v c ≡ true → Meets v (cs ++ c ∷ [])
 meets_more v [] c meets e = rw e refl
 meets_more v (d ∷ ds) c meets e = go (λ m. meets_more v ds c m e) (clause_true v d) meets
   where

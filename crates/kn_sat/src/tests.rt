@@ -1,0 +1,157 @@
+//! The rows of searches, and two small circuits.
+
+ghost use Rattle.std.specs.Prelude.{◌≡◌, ◌<◌, ◌≤◌, IfOk, map};
+ghost use Rattle.std.specs.List.{AllByRecursion};
+ghost use Rattle.kn_cnf.specs.declared.clauses.Lit.{Lit};
+ghost use Rattle.kn_cnf.specs.Formulas.{items_of, AreBelow};
+
+use super::*;
+use kn_aig::Aig;
+use kn_cnf::{Clause, Cnf, Lit, of_aig};
+use kn_unsat::check;
+use std::alloc::{AllocError, Global};
+use std::test::Fail;
+
+const X: Lit = Lit { var: 0, neg: false };
+
+const NOT_X: Lit = Lit { var: 0, neg: true };
+
+const Y: Lit = Lit { var: 1, neg: false };
+
+const NOT_Y: Lit = Lit { var: 1, neg: true };
+
+/// Four clauses over two variables that no values meet.
+const SQUARE: [[Lit; 2]; 4] = [[X, Y], [X, NOT_Y], [NOT_X, Y], [NOT_X, NOT_Y]];
+
+fn is_shared<T: Send + Sync>(_value: &T) {}
+
+/// The clause of these literals. Err also where a variable is not below the bound.
+fn clause_of(alloc: Global, vars: usize, literals: &[Lit]) -> Result<Clause, AllocError>
+    ensures { IfOk result (λ c. AllByRecursion (λ (l : Lit). l.var < vars) c.items) }
+{
+    let mut clause = Vec::new(alloc);
+    for l in literals {
+        if l.var >= vars {
+            return Err(AllocError);
+        }
+        clause.push(*l)?;
+    }
+    Ok(clause)
+}
+
+/// The four clauses.
+fn square(alloc: Global) -> Result<Cnf, AllocError>
+    ensures vars { IfOk result (λ f. f.vars ≡ 2) }
+    ensures below { IfOk result (λ f. AreBelow f.vars f.clauses) }
+{
+    let mut clauses: Vec<Clause> = Vec::new(alloc);
+    for row in SQUARE {
+        clauses.push(clause_of(alloc, 2, &row)?)?;
+    }
+    Ok(Cnf { vars: 2, clauses })
+}
+
+/// The formula of one clause.
+fn one_clause(alloc: Global, vars: usize, literals: &[Lit]) -> Result<Cnf, AllocError>
+    ensures vars { IfOk result (λ f. f.vars ≡ vars) }
+    ensures below { IfOk result (λ f. AreBelow f.vars f.clauses) }
+{
+    let clause = clause_of(alloc, vars, literals)?;
+    Ok(Cnf {
+        vars,
+        clauses: vec![in alloc; clause]?,
+    })
+}
+
+/// A search where each variable is an input.
+fn search_all(alloc: Global, cnf: &Cnf, budget: u64) -> Result<Found, AllocError>
+    requires below { AreBelow cnf.now.vars cnf.now.clauses }
+    requires budget { 1 ≤ budget }
+{
+    search(alloc, cnf, cnf.vars, budget)
+}
+
+/// Whether a model with these bits was found.
+fn is_model(found: &Found, want: &[bool]) -> bool {
+    match found {
+        Found::Model(bits) => bits.as_slice() == want,
+        Found::Closed(_) => false,
+        Found::Spent(_) => false,
+    }
+}
+
+/// Whether a log was found that checks.
+fn is_closed(found: &Found, cnf: &Cnf) -> Result<bool, AllocError> {
+    match found {
+        Found::Closed(log) => check(cnf, log),
+        Found::Model(_) => Ok(false),
+        Found::Spent(_) => Ok(false),
+    }
+}
+
+/// Whether so many conflicts were met.
+fn is_spent(found: &Found, want: u64) -> bool {
+    match found {
+        Found::Spent(count) => *count == want,
+        Found::Model(_) => false,
+        Found::Closed(_) => false,
+    }
+}
+
+#[test]
+fn finds_the_least_model(rt: HostRuntime) -> Result<(), Fail> {
+    let alloc = rt.alloc();
+    let either = one_clause(alloc, 2, &[X, Y])?;
+    let found = search_all(alloc, &either, 4)?;
+    assert!(rt; is_model(&found, &[false, true]));
+    is_shared(&found);
+    let forty = one_clause(alloc, 40, &[NOT_X])?;
+    assert!(rt; is_model(&search_all(alloc, &forty, 1)?, &[false; 40]));
+    let second = one_clause(alloc, 3, &[X])?;
+    assert!(rt; is_model(&search_all(alloc, &second, 1)?, &[true, false, false]));
+    Ok(())
+}
+
+#[test]
+fn closes_what_has_no_model(rt: HostRuntime) -> Result<(), Fail> {
+    let alloc = rt.alloc();
+    let square = square(alloc)?;
+    assert!(rt; is_closed(&search_all(alloc, &square, 4)?, &square)?);
+    assert!(rt; is_closed(&search_all(alloc, &square, 2)?, &square)?);
+    assert!(rt; is_spent(&search_all(alloc, &square, 1)?, 1));
+    let never = one_clause(alloc, 3, &[])?;
+    assert!(rt; is_closed(&search_all(alloc, &never, 1)?, &never)?);
+    Ok(())
+}
+
+#[test]
+fn an_empty_formula_has_the_first_assignment(rt: HostRuntime) -> Result<(), Fail> {
+    let alloc = rt.alloc();
+    for vars in [0, 1, 3] {
+        let empty = Cnf {
+            vars,
+            clauses: Vec::new(alloc),
+        };
+        let found = search_all(alloc, &empty, 1)?;
+        assert!(rt; is_model(&found, &[false; 3][..vars]));
+    }
+    Ok(())
+}
+
+#[test]
+fn propagates_through_gates(rt: HostRuntime) -> Result<(), Fail> {
+    let alloc = rt.alloc();
+    let mut aig = Aig::new(alloc);
+    let x = aig.input()?;
+    let y = aig.input()?;
+    let z = aig.input()?;
+    let first = aig.and(x, y.negated())?;
+    let both = aig.and(first, z)?;
+    let cnf = of_aig(alloc, &aig, both)?;
+    assert!(rt; is_model(&search(alloc, &cnf, aig.inputs(), 1)?, &[true, false, true]));
+    let other = aig.and(y, z)?;
+    let never = aig.and(first, other)?;
+    let cnf = of_aig(alloc, &aig, never)?;
+    assert!(rt; is_closed(&search(alloc, &cnf, aig.inputs(), 1)?, &cnf)?);
+    Ok(())
+}
