@@ -135,13 +135,15 @@ impl Terms {
         Ok(values[r.index])
     }
 
-    /// That each node may stand where it stands, its children before it, and that each term has a word under each
-    /// valuation, for a caller that needs it in a proof.
+    /// That each node may stand where it stands, its children before it, that there is a number for each place, and that
+    /// each term has a word under each valuation, for a caller that needs it in a proof.
     pub fn order(&self)
         ensures order { AreNodes self.now }
+        ensures few { length self.now < 2 ^ 64 }
         ensures words { (a : Assignment) (place : ℕ) → place < length self.now → ev a (term_at self.now place) < 2 ^ 16 }
     {
         let _ = &self.nodes;
+        let _count = self.len;
     }
 
     /// The same list of nodes. Err is want of memory.
