@@ -1,0 +1,15 @@
+-- What an operator gives where something is known of its operands.
+use Rattle.std.specs.Prelude.{◌≡◌, ℕ, Option, Some, None}
+use Rattle.kn_simplify.specs.declared.laws.Outcome.{Outcome}
+use Rattle.kn_simplify.specs.declared.laws.Outcome.TheVariants as outcomes
+
+-- the word of an outcome with these words on both sides
+abbrev pub outcome_word : Outcome → ℕ → ℕ → ℕ
+outcome_word (outcomes.Word w) x y = w
+outcome_word outcomes.Left x y = x
+outcome_word outcomes.Right x y = y
+
+-- an operand that may be known has a word
+abbrev pub IsWordOf : Option ℕ → ℕ → Type 0
+IsWordOf None x = Unit {0}
+IsWordOf (Some w) x = x ≡ w
