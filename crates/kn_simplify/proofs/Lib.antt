@@ -1,3 +1,4 @@
 pub mod Digits
 pub mod Units
+pub mod Folding
 pub mod Simpler

@@ -13,3 +13,8 @@ outcome_word outcomes.Right x y = y
 abbrev pub IsWordOf : Option ℕ → ℕ → Type 0
 IsWordOf None x = Unit {0}
 IsWordOf (Some w) x = x ≡ w
+
+-- an operand is not known to be a word
+abbrev pub IsUnknown : Option ℕ → Type 0
+IsUnknown None = Unit {0}
+IsUnknown (Some w) = ⊥

@@ -4,6 +4,7 @@ use Rattle.kn_term.specs.declared.node.Node.{Node}
 use Rattle.kn_term.specs.declared.node.Ref.{Ref}
 use Rattle.kn_term.specs.Terms.{Term, Word, Valuation, ev, Reads}
 use Rattle.kn_term.specs.Nodes.{term_at}
+use Rattle.kn_simplify.specs.Folded.{IsFolded, HasFoldedOperands}
 use Rattle.kn_simplify.specs.declared.form.Form.{Form}
 use Rattle.kn_simplify.specs.declared.form.Form.TheVariants as forms
 
@@ -22,10 +23,11 @@ abbrev pub IsFormIn : ℕ → Form → Type 0
 IsFormIn count (forms.Word w) = Unit {0}
 IsFormIn count (forms.Term r) = r.index < count
 
--- a form that may stand for a term
+-- a form that may stand for a term, and is folded where the term's operands are
 pub record IsFormOf (ns : List Node) (f : Form) (t : Term) : Type 0 where
   pub stands : IsFormIn (length ns) f
   pub term : StandsFor (form_term ns f) t
+  pub folded : HasFoldedOperands t → IsFolded (form_term ns f)
 
 -- a Ref names a term that may stand for the one at a place
 pub record IsSimpler (ns : List Node) (place : ℕ) (r : Ref) : Type 0 where

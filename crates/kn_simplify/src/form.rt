@@ -4,6 +4,7 @@ ghost use Rattle.std.specs.Prelude.{◌≡◌, ◌<◌, length, true, MatchOptio
 ghost use Rattle.kn_built.specs.Built.{Extends};
 ghost use Rattle.kn_term.specs.Terms.{Word, Apply, Choice};
 ghost use Rattle.kn_term.specs.Nodes.{term_at, term_of, terms_of, IsNodeAt};
+ghost use Rattle.kn_simplify.specs.Folded.{IsWord, IsFoldedTop};
 ghost use Rattle.kn_simplify.specs.Simpler.{form_term, IsFormIn, IsFormOf};
 
 use crate::laws::{Outcome, outcome_of};
@@ -20,10 +21,11 @@ pub enum Form {
     Term(Ref),
 }
 
-/// A simpler form of a node over the terms of a list; None where no rule has one.
+/// A simpler form of a node over the terms of a list; None where no rule has one, and never at an operator on two words
+/// or a choice by a word.
 pub fn form_of(terms: &Terms, node: Node) -> Option<Form>
     requires { IsNodeAt (length terms.now) node }
-    ensures { MatchOption result Unit (λ f. IsFormOf terms.now f (term_of (terms_of terms.now) node)) }
+    ensures { MatchOption result (IsFoldedTop (term_of (terms_of terms.now) node)) (λ f. IsFormOf terms.now f (term_of (terms_of terms.now) node)) }
 {
     match node {
         Node::Konst(_) => None,
@@ -37,7 +39,7 @@ pub fn form_of(terms: &Terms, node: Node) -> Option<Form>
 fn form_of_operator(terms: &Terms, op: Op, x: Ref, y: Ref) -> Option<Form>
     requires x { x.index < length terms.now }
     requires y { y.index < length terms.now }
-    ensures { MatchOption result Unit (λ f. IsFormOf terms.now f (Apply op (term_at terms.now x.index) (term_at terms.now y.index))) }
+    ensures { MatchOption result (IsFoldedTop (Apply op (term_at terms.now x.index) (term_at terms.now y.index))) (λ f. IsFormOf terms.now f (Apply op (term_at terms.now x.index) (term_at terms.now y.index))) }
 {
     terms.order();
     let left = word_of(terms, x);
@@ -56,7 +58,7 @@ fn form_of_choice(terms: &Terms, c: Ref, x: Ref, y: Ref) -> Option<Form>
     requires c { c.index < length terms.now }
     requires x { x.index < length terms.now }
     requires y { y.index < length terms.now }
-    ensures { MatchOption result Unit (λ f. IsFormOf terms.now f (Choice (term_at terms.now c.index) (term_at terms.now x.index) (term_at terms.now y.index))) }
+    ensures { MatchOption result (IsFoldedTop (Choice (term_at terms.now c.index) (term_at terms.now x.index) (term_at terms.now y.index))) (λ f. IsFormOf terms.now f (Choice (term_at terms.now c.index) (term_at terms.now x.index) (term_at terms.now y.index))) }
 {
     let condition = word_of(terms, c);
     let same = are_same(terms, x, y);
@@ -71,7 +73,7 @@ fn form_of_choice(terms: &Terms, c: Ref, x: Ref, y: Ref) -> Option<Form>
 /// The word that a term is; None where it is no word.
 fn word_of(terms: &Terms, r: Ref) -> Option<u16>
     requires { r.index < length terms.now }
-    ensures { MatchOption result Unit (λ w. term_at terms.now r.index ≡ Word w) }
+    ensures { MatchOption result (IsWord (term_at terms.now r.index) → ⊥) (λ w. term_at terms.now r.index ≡ Word w) }
 {
     match terms.node(r) {
         Node::Konst(word) => Some(word),

@@ -1,8 +1,8 @@
 //! What each operator always gives where something is known of its operands.
 
-ghost use Rattle.std.specs.Prelude.{◌≡◌, ℕ, ◌<◌, true, MatchOption};
+ghost use Rattle.std.specs.Prelude.{◌≡◌, ◌⊎◌, ℕ, ◌<◌, true, MatchOption};
 ghost use Rattle.kn_word.specs.Words.{val};
-ghost use Rattle.kn_simplify.specs.Laws.{outcome_word, IsWordOf};
+ghost use Rattle.kn_simplify.specs.Laws.{outcome_word, IsWordOf, IsUnknown};
 
 use kn_ops::grouped_rows;
 use kn_word::{Op, apply};
@@ -108,9 +108,10 @@ pub fn of_itself(op: Op) -> Option<Outcome>
     grouped_rows!(law_arms twice_law op [])
 }
 
-/// What an operator gives where an operand may be a known word, and both may be the same; None where no law says so.
+/// What an operator gives where an operand may be a known word, and both may be the same; None where no law says so, and
+/// never where both are known.
 pub fn outcome_of(op: Op, left: Option<u16>, right: Option<u16>, same: bool) -> Option<Outcome>
-    ensures { MatchOption result Unit (λ o. (x y : ℕ) → x < 65536 → y < 65536 → IsWordOf left x → IsWordOf right y → (same ≡ true → x ≡ y) → outcome_word o x y ≡ val op x y) }
+    ensures { MatchOption result (IsUnknown left ⊎ IsUnknown right) (λ o. (x y : ℕ) → x < 65536 → y < 65536 → IsWordOf left x → IsWordOf right y → (same ≡ true → x ≡ y) → outcome_word o x y ≡ val op x y) }
 {
     match (left, right) {
         (Some(x), Some(y)) => Some(Outcome::Word(apply(op, x, y))),

@@ -4,6 +4,7 @@ ghost use Rattle.std.specs.Prelude.{◌≡◌, ℕ, ◌<◌, length, IfOk, OnErr
 ghost use Rattle.kn_built.specs.Built.{Extends};
 ghost use Rattle.kn_term.specs.Terms.{Valuation, ev, Reads};
 ghost use Rattle.kn_term.specs.Nodes.{term_at};
+ghost use Rattle.kn_simplify.specs.Folded.{IsFolded, HasFoldedOperands};
 
 use crate::form::{enter, form_of};
 use kn_term::{Ref, Terms};
@@ -11,11 +12,12 @@ use std::alloc::AllocError;
 
 /// A term with the same words as a term, simpler where the operator or the choice at its top always gives a word or one
 /// of its operands. Its operands are taken as they are, and at most one node is new. The answer reads no other input.
-/// Earlier Refs keep their terms. Err is want of memory, and leaves the list as it was.
+/// Where the operands are folded, the answer is: no operator in it is on two words, and no choice by a word. Earlier Refs keep their terms. Err is want of memory, and leaves the list as it was.
 pub fn simplify_top(terms: &mut Terms, r: Ref) -> Result<Ref, AllocError>
     requires { r.index < length terms.old }
     ensures value { IfOk result (λ s. (a : Valuation) → ev a (term_at terms.new s.index) ≡ ev a (term_at terms.old r.index)) }
     ensures inputs { IfOk result (λ s. (n k width : ℕ) → Reads n k width (term_at terms.new s.index) → Reads n k width (term_at terms.old r.index)) }
+    ensures folded { IfOk result (λ s. HasFoldedOperands (term_at terms.old r.index) → IsFolded (term_at terms.new s.index)) }
     ensures stands { IfOk result (λ s. s.index < length terms.new) }
     ensures grows { Extends terms.old terms.new }
     ensures err { OnErr result (terms.new ≡ terms.old) }
