@@ -14,8 +14,8 @@ use Rattle.kn_term.specs.Nodes.{term_at, term_of, terms_of, IsNodeAt}
 use Rattle.kn_term.proofs.Kept.{term_at-extends}
 use Rattle.kn_simplify.specs.Simpler.{AreSimpler}
 use Rattle.kn_term.specs.Terms.{Term, Word, Input, Apply, Choice}
-use Rattle.kn_simplify.specs.Laws.{IsUnknown}
-use Rattle.kn_simplify.specs.Folded.{IsWord, IsFoldedTop, IsFolded, HasFoldedOperands, IsMarked, HasMarkedOperands, AreMarkedFrom, IsFoldedFor, HasFoldedFor, AreFolded}
+use Rattle.kn_simplify.specs.Laws.{IsUnknown, MayBeNeeded}
+use Rattle.kn_simplify.specs.Folded.{IsWord, IsNeeded, IsFoldedTop, IsFolded, HasFoldedOperands, IsMarked, HasMarkedOperands, AreMarkedFrom, IsFoldedFor, HasFoldedFor, AreFolded}
 
 -- folded at the top, and below
 pub folded_of : (t : Term) → IsFoldedTop t → HasFoldedOperands t → IsFolded t
@@ -29,11 +29,25 @@ unknown : (o : Option ℕ) (t : Term) → MatchOption o (IsWord t → ⊥) (λ w
 unknown None t is h w = is w
 unknown (Some v) t is h w = h
 
--- an operator of which one operand is not known
-pub top_unknown : (op : Op) (left right : Option ℕ) (s t : Term) → MatchOption left (IsWord s → ⊥) (λ w. s ≡ Word w) → MatchOption right (IsWord t → ⊥) (λ w. t ≡ Word w)
-    → IsUnknown left ⊎ IsUnknown right → IsFoldedTop (Apply op s t)
-top_unknown op left right s t a b (inl h) v w = unknown left s a h v
-top_unknown op left right s t a b (inr h) v w = unknown right t b h w
+-- an operand that is a word is known
+known : (o : Option ℕ) (t : Term) (w : ℕ) → MatchOption o (IsWord t → ⊥) (λ v. t ≡ Word v) → t ≡ Word w → o ≡ Some w
+known None t w is e = absurd (is (subst IsWord (sym e) tt))
+known (Some v) t w is e =
+    let same : v ≡ w = cc in
+    ap (λ (n : ℕ). Some n) same
+
+-- an operator that no law does away with
+pub top_needed : (op : Op) (left right : Option ℕ) (s t : Term) → MatchOption left (IsWord s → ⊥) (λ w. s ≡ Word w) → MatchOption right (IsWord t → ⊥) (λ w. t ≡ Word w)
+    → MayBeNeeded op left right → IsNeeded op s t
+top_needed op left right s t a b needed = record {
+  words = both needed.words;
+  left = λ w e. needed.left w (known left s w a e);
+  right = λ w e. needed.right w (known right t w b e);
+}
+  where
+    both : IsUnknown left ⊎ IsUnknown right → IsWord s → IsWord t → ⊥
+    both (inl h) v w = unknown left s a h v
+    both (inr h) v w = unknown right t b h w
 
 -- the operands that a table has for a node's are folded where its places are marked
 pub operands_folded : (ns : List Node) (marks : List Bool) (table : List Ref) (n : Node) → AreFolded ns marks table → HasMarkedOperands marks n → HasFoldedFor ns table n
@@ -54,8 +68,7 @@ pub choice_folded : (ns : List Node) (table : List Ref) (c x y d : Ref) (n : Nod
     → HasFoldedOperands (term_of (terms_of ns) (nodes.Ite (get_or table c.index d) (get_or table x.index d) (get_or table y.index d)))
 choice_folded ns table c x y d n e h are =
     let inside : (c.index < length table) × (x.index < length table) × (y.index < length table) = subst (IsNodeAt (length table)) e h in
-    let each : IsFoldedFor ns table c.index × IsFoldedFor ns table x.index × IsFoldedFor ns table y.index = subst (HasFoldedFor ns table) e are in
-    (
+    let each : IsFoldedFor ns table c.index × IsFoldedFor ns table x.index × IsFoldedFor ns table y.index = subst (HasFoldedFor ns table) e are in (
       each.0 (get_or table c.index d) (slice_get-get_or table c.index d inside.0),
       each.1 (get_or table x.index d) (slice_get-get_or table x.index d inside.1),
       each.2 (get_or table y.index d) (slice_get-get_or table y.index d inside.2),

@@ -1,5 +1,7 @@
 -- Terms in which no constant is left to fold.
-use Rattle.std.specs.Prelude.{ℕ, ◌≡◌, ◌≤◌, Bool, true, List, slice_get, slice_index_or, false, Some}
+use Rattle.std.specs.Prelude.{ℕ, ◌≡◌, ◌≤◌, Bool, true, List, slice_get, slice_index_or, nat_eq, false, Some}
+use Rattle.kn_word.specs.declared.Op.{Op}
+use Rattle.kn_word.specs.declared.Op.TheVariants as ops
 use Rattle.kn_term.specs.declared.node.Node.{Node}
 use Rattle.kn_term.specs.declared.node.Node.TheVariants as nodes
 use Rattle.kn_term.specs.declared.node.Ref.{Ref}
@@ -13,18 +15,32 @@ IsWord (Input n k width) = ⊥
 IsWord (Apply op x y) = ⊥
 IsWord (Choice c x y) = ⊥
 
--- at its top there is no operator on two words, and no choice by a word
+-- with this word on one side an operator, which does not mind the order, always gives the other operand or this word
+abbrev pub is_idle : Op → ℕ → Bool
+is_idle ops.Add w = nat_eq w 0
+is_idle ops.Mul w = nat_eq w 1
+is_idle ops.And w = nat_eq w 0
+is_idle ops.Or w = nat_eq w 0
+is_idle op w = false
+
+-- an operator on two terms is needed: they are not both words, and with neither is it idle
+pub record IsNeeded (op : Op) (x y : Term) : Type 0 where
+  pub words : IsWord x → IsWord y → ⊥
+  pub left : (w : ℕ) → x ≡ Word w → is_idle op w ≡ false
+  pub right : (w : ℕ) → y ≡ Word w → is_idle op w ≡ false
+
+-- at its top there is no operator that is not needed, and no choice by a word
 abbrev pub IsFoldedTop : Term → Type 0
 IsFoldedTop (Word w) = Unit {0}
 IsFoldedTop (Input n k width) = Unit {0}
-IsFoldedTop (Apply op x y) = IsWord x → IsWord y → ⊥
+IsFoldedTop (Apply op x y) = IsNeeded op x y
 IsFoldedTop (Choice c x y) = IsWord c → ⊥
 
--- nowhere in it is there an operator on two words, or a choice by a word
+-- nowhere in it is there an operator that is not needed, or a choice by a word
 abbrev pub IsFolded : Term → Type 0
 IsFolded (Word w) = Unit {0}
 IsFolded (Input n k width) = Unit {0}
-IsFolded (Apply op x y) = (IsWord x → IsWord y → ⊥) × IsFolded x × IsFolded y
+IsFolded (Apply op x y) = IsNeeded op x y × IsFolded x × IsFolded y
 IsFolded (Choice c x y) = (IsWord c → ⊥) × IsFolded c × IsFolded x × IsFolded y
 
 -- its operands are folded, if it has any

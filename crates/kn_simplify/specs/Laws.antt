@@ -1,5 +1,7 @@
 -- What an operator gives where something is known of its operands.
-use Rattle.std.specs.Prelude.{◌≡◌, ℕ, Option, Some, None}
+use Rattle.std.specs.Prelude.{◌≡◌, ◌⊎◌, ℕ, false, Option, Some, None}
+use Rattle.kn_word.specs.declared.Op.{Op}
+use Rattle.kn_simplify.specs.Folded.{is_idle}
 use Rattle.kn_simplify.specs.declared.laws.Outcome.{Outcome}
 use Rattle.kn_simplify.specs.declared.laws.Outcome.TheVariants as outcomes
 
@@ -18,3 +20,9 @@ IsWordOf (Some w) x = x ≡ w
 abbrev pub IsUnknown : Option ℕ → Type 0
 IsUnknown None = Unit {0}
 IsUnknown (Some w) = ⊥
+
+-- an operator is needed as far as is known of its operands: not both are words, and with neither is it idle
+pub record MayBeNeeded (op : Op) (x y : Option ℕ) : Type 0 where
+  pub words : IsUnknown x ⊎ IsUnknown y
+  pub left : (w : ℕ) → x ≡ Some w → is_idle op w ≡ false
+  pub right : (w : ℕ) → y ≡ Some w → is_idle op w ≡ false

@@ -1,8 +1,9 @@
 //! What each operator always gives where something is known of its operands.
 
-ghost use Rattle.std.specs.Prelude.{◌≡◌, ◌⊎◌, ℕ, ◌<◌, true, MatchOption};
+ghost use Rattle.std.specs.Prelude.{◌≡◌, ℕ, ◌<◌, true, false, MatchOption};
 ghost use Rattle.kn_word.specs.Words.{val};
-ghost use Rattle.kn_simplify.specs.Laws.{outcome_word, IsWordOf, IsUnknown};
+ghost use Rattle.kn_simplify.specs.Folded.{is_idle};
+ghost use Rattle.kn_simplify.specs.Laws.{outcome_word, IsWordOf, MayBeNeeded};
 
 use kn_ops::grouped_rows;
 use kn_word::{Op, apply};
@@ -87,16 +88,18 @@ macro_rules! twice_law {
     ($other:ident []) => { None };
 }
 
-/// What an operator gives with this word on its left, whatever is on its right; None where no law says so.
+/// What an operator gives with this word on its left, whatever is on its right; None where no law says so, never where
+/// the operator is idle.
 pub fn with_left(op: Op, x: u16) -> Option<Outcome>
-    ensures { MatchOption result Unit (λ o. (y : ℕ) → y < 65536 → outcome_word o x y ≡ val op x y) }
+    ensures { MatchOption result (is_idle op x ≡ false) (λ o. (y : ℕ) → y < 65536 → outcome_word o x y ≡ val op x y) }
 {
     grouped_rows!(law_arms left_law op [x])
 }
 
-/// What an operator gives with this word on its right, whatever is on its left; None where no law says so.
+/// What an operator gives with this word on its right, whatever is on its left; None where no law says so, never where
+/// the operator is idle.
 pub fn with_right(op: Op, y: u16) -> Option<Outcome>
-    ensures { MatchOption result Unit (λ o. (x : ℕ) → x < 65536 → outcome_word o x y ≡ val op x y) }
+    ensures { MatchOption result (is_idle op y ≡ false) (λ o. (x : ℕ) → x < 65536 → outcome_word o x y ≡ val op x y) }
 {
     grouped_rows!(law_arms right_law op [y])
 }
@@ -108,10 +111,10 @@ pub fn of_itself(op: Op) -> Option<Outcome>
     grouped_rows!(law_arms twice_law op [])
 }
 
-/// What an operator gives where an operand may be a known word, and both may be the same; None where no law says so, and
-/// never where both are known.
+/// What an operator gives where an operand may be a known word, and both may be the same; None where no law says so,
+/// never where both are known or the operator is idle.
 pub fn outcome_of(op: Op, left: Option<u16>, right: Option<u16>, same: bool) -> Option<Outcome>
-    ensures { MatchOption result (IsUnknown left ⊎ IsUnknown right) (λ o. (x y : ℕ) → x < 65536 → y < 65536 → IsWordOf left x → IsWordOf right y → (same ≡ true → x ≡ y) → outcome_word o x y ≡ val op x y) }
+    ensures { MatchOption result (MayBeNeeded op left right) (λ o. (x y : ℕ) → x < 65536 → y < 65536 → IsWordOf left x → IsWordOf right y → (same ≡ true → x ≡ y) → outcome_word o x y ≡ val op x y) }
 {
     match (left, right) {
         (Some(x), Some(y)) => Some(Outcome::Word(apply(op, x, y))),

@@ -12,7 +12,9 @@ use std::alloc::AllocError;
 
 /// A term with the same words as a term, simpler where the operator or the choice at its top always gives a word or one
 /// of its operands. Its operands are taken as they are, and at most one node is new. The answer reads no other input.
-/// Where the operands are folded, the answer is: no operator in it is on two words, and no choice by a word. Earlier Refs keep their terms. Err is want of memory, and leaves the list as it was.
+/// Where the operands are folded, the answer is: no operator in it is on two words, none is `add`, `and` or `or` with 0
+/// or `mul` with 1, and no choice is by a word. Earlier Refs keep their terms. Err is want of memory, and leaves the
+/// list as it was.
 pub fn simplify_top(terms: &mut Terms, r: Ref) -> Result<Ref, AllocError>
     requires { r.index < length terms.old }
     ensures value { IfOk result (λ s. (a : Valuation) → ev a (term_at terms.new s.index) ≡ ev a (term_at terms.old r.index)) }
