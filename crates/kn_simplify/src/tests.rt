@@ -198,7 +198,6 @@ fn takes_a_side_of_a_choice(rt: HostRuntime) -> Result<(), Fail> {
     Ok(())
 }
 
-/// The node of `(2 mul 3) sub 6`, or of its sum with itself, behind an input.
 #[tactic(auto, using(kn_term::proofs::Kept::kept))]
 #[test]
 fn folds_from_the_operands_up(rt: HostRuntime) -> Result<(), Fail> {
