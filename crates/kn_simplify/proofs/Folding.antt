@@ -1,5 +1,5 @@
 -- Terms in which no constant is left to fold.
-use Rattle.std.proofs.Common.{◌≡◌, ℕ, ◌+◌, ◌<◌, ◌≤◌, Bool, List, [], ◌∷◌, ◌++◌, length, get_or, Option, Some, None, MatchOption, refl, sym, ap, subst, ◌∙◌, arith, inl, inr}
+use Rattle.std.proofs.Common.{◌≡◌, ℕ, ◌+◌, ◌<◌, Bool, List, [], ◌∷◌, ◌++◌, length, get_or, Option, Some, None, MatchOption, refl, sym, ap, subst, ◌∙◌, arith, inl, inr}
 use Rattle.std.specs.Prelude.{◌⊎◌, slice_get}
 use Rattle.std.proofs.lemmas.Bool.{cases_lt}
 use Rattle.std.proofs.lemmas.List.{get_or_append_left, get_or_push, length_push}
@@ -37,9 +37,9 @@ known (Some v) t w is e =
     ap (λ (n : ℕ). Some n) same
 
 -- an operator that no law does away with
-pub top_needed : (op : Op) (left right : Option ℕ) (s t : Term) → MatchOption left (IsWord s → ⊥) (λ w. s ≡ Word w) → MatchOption right (IsWord t → ⊥) (λ w. t ≡ Word w)
-    → MayBeNeeded op left right → IsNeeded op s t
-top_needed op left right s t a b needed = record {
+pub top_needed : (op : Op) (left right : Option ℕ) (same : Bool) (s t : Term) → MatchOption left (IsWord s → ⊥) (λ w. s ≡ Word w) → MatchOption right (IsWord t → ⊥) (λ w. t ≡ Word w)
+    → MayBeNeeded op left right same → IsNeeded op s t
+top_needed op left right same s t a b needed = record {
   words = both needed.words;
   left = λ w e. needed.left w (known left s w a e);
   right = λ w e. needed.right w (known right t w b e);

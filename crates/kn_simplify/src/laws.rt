@@ -3,7 +3,7 @@
 ghost use Rattle.std.specs.Prelude.{◌≡◌, ℕ, ◌<◌, true, false, MatchOption};
 ghost use Rattle.kn_word.specs.Words.{val};
 ghost use Rattle.kn_simplify.specs.Folded.{is_idle};
-ghost use Rattle.kn_simplify.specs.Laws.{outcome_word, IsWordOf, MayBeNeeded};
+ghost use Rattle.kn_simplify.specs.Laws.{outcome_word, IsWordOf, MayBeNeeded, is_idle_twice};
 
 use kn_ops::grouped_rows;
 use kn_word::{Op, apply};
@@ -104,9 +104,9 @@ pub fn with_right(op: Op, y: u16) -> Option<Outcome>
     grouped_rows!(law_arms right_law op [y])
 }
 
-/// What an operator gives with one operand on both sides; None where no law says so.
+/// What an operator gives with one operand on both sides; None where no law says so, never where the operator is idle.
 pub fn of_itself(op: Op) -> Option<Outcome>
-    ensures { MatchOption result Unit (λ o. (x : ℕ) → x < 65536 → outcome_word o x x ≡ val op x x) }
+    ensures { MatchOption result (is_idle_twice op ≡ false) (λ o. (x : ℕ) → x < 65536 → outcome_word o x x ≡ val op x x) }
 {
     grouped_rows!(law_arms twice_law op [])
 }
@@ -114,7 +114,7 @@ pub fn of_itself(op: Op) -> Option<Outcome>
 /// What an operator gives where an operand may be a known word, and both may be the same; None where no law says so,
 /// never where both are known or the operator is idle.
 pub fn outcome_of(op: Op, left: Option<u16>, right: Option<u16>, same: bool) -> Option<Outcome>
-    ensures { MatchOption result (MayBeNeeded op left right) (λ o. (x y : ℕ) → x < 65536 → y < 65536 → IsWordOf left x → IsWordOf right y → (same ≡ true → x ≡ y) → outcome_word o x y ≡ val op x y) }
+    ensures { MatchOption result (MayBeNeeded op left right same) (λ o. (x y : ℕ) → x < 65536 → y < 65536 → IsWordOf left x → IsWordOf right y → (same ≡ true → x ≡ y) → outcome_word o x y ≡ val op x y) }
 {
     match (left, right) {
         (Some(x), Some(y)) => Some(Outcome::Word(apply(op, x, y))),

@@ -1,5 +1,5 @@
 -- Marks stay.
-use Rattle.std.proofs.Common.{◌≡◌, ◌+◌, ◌<◌, ◌++◌, Bool, true, List, length, set, take, drop, sym, ap, subst, ◌∙◌, arith}
+use Rattle.std.proofs.Common.{◌≡◌, ◌<◌, ◌++◌, Bool, true, List, length, set, take, drop, sym, ap, subst, ◌∙◌, arith}
 use Rattle.std.proofs.lemmas.List.{length-set}
 use Rattle.kn_simplify.specs.Folded.{IsMarked, AreMarkedFrom}
 use Rattle.kn_simplify.proofs.Marking.{marked, written_back}
