@@ -1,5 +1,5 @@
 -- Terms in which no constant is left to fold.
-use Rattle.std.proofs.Common.{◌≡◌, ℕ, ◌+◌, ◌<◌, Bool, List, [], ◌∷◌, ◌++◌, length, get_or, Option, Some, None, MatchOption, refl, sym, ap, subst, ◌∙◌, arith, inl, inr}
+use Rattle.std.proofs.Common.{◌≡◌, ℕ, ◌+◌, ◌<◌, Bool, true, false, List, [], ◌∷◌, ◌++◌, length, get_or, Option, Some, None, MatchOption, refl, sym, ap, subst, ◌∙◌, arith, inl, inr}
 use Rattle.std.specs.Prelude.{◌⊎◌, slice_get}
 use Rattle.std.proofs.lemmas.Bool.{cases_lt}
 use Rattle.std.proofs.lemmas.List.{get_or_append_left, get_or_push, length_push}
@@ -15,7 +15,7 @@ use Rattle.kn_term.proofs.Kept.{term_at-extends}
 use Rattle.kn_simplify.specs.Simpler.{AreSimpler}
 use Rattle.kn_term.specs.Terms.{Term, Word, Input, Apply, Choice}
 use Rattle.kn_simplify.specs.Laws.{IsUnknown, MayBeNeeded}
-use Rattle.kn_simplify.specs.Folded.{IsWord, IsNeeded, IsFoldedTop, IsFolded, HasFoldedOperands, IsMarked, HasMarkedOperands, AreMarkedFrom, IsFoldedFor, HasFoldedFor, AreFolded}
+use Rattle.kn_simplify.specs.Folded.{IsWord, is_idle_twice, IsNeeded, IsFoldedTop, IsFolded, HasFoldedOperands, IsMarked, HasMarkedOperands, AreMarkedFrom, IsFoldedFor, HasFoldedFor, AreFolded}
 
 -- folded at the top, and below
 pub folded_of : (t : Term) → IsFoldedTop t → HasFoldedOperands t → IsFolded t
@@ -48,6 +48,24 @@ top_needed op left right same s t a b needed = record {
     both : IsUnknown left ⊎ IsUnknown right → IsWord s → IsWord t → ⊥
     both (inl h) v w = unknown left s a h v
     both (inr h) v w = unknown right t b h w
+
+-- one term on both sides of which not both are known is not known
+both_unknown : (left right : Option ℕ) (t : Term) → MatchOption left (IsWord t → ⊥) (λ w. t ≡ Word w) → MatchOption right (IsWord t → ⊥) (λ w. t ≡ Word w) → IsUnknown left ⊎ IsUnknown right
+    → IsUnknown left × IsUnknown right
+both_unknown None None t a b h = (tt, tt)
+both_unknown None (Some w) t a b h = absurd (a (subst IsWord (sym b) tt))
+both_unknown (Some v) None t a b h = absurd (b (subst IsWord (sym a) tt))
+both_unknown (Some v) (Some w) t a b (inl h) = absurd h
+both_unknown (Some v) (Some w) t a b (inr h) = absurd h
+
+-- an operator that is idle with one term on both sides is not left
+pub none_idle : (op : Op) (left right : Option ℕ) (same : Bool) (s t : Term) → s ≡ t → MatchOption left (IsWord s → ⊥) (λ w. s ≡ Word w) → MatchOption right (IsWord t → ⊥) (λ w. t ≡ Word w)
+    → MayBeNeeded op left right same → same ≡ true → is_idle_twice op ≡ true → ⊥
+none_idle op left right same s t e a b needed is idle =
+    let as_s : MatchOption right (IsWord s → ⊥) (λ w. s ≡ Word w) = subst (λ (u : Term). MatchOption right (IsWord u → ⊥) (λ w. u ≡ Word w)) (sym e) b in
+    let h = both_unknown left right s a as_s needed.words in
+    let clash : true ≡ false = sym idle ∙ needed.twice is h.0 h.1 in
+    cc
 
 -- the operands that a table has for a node's are folded where its places are marked
 pub operands_folded : (ns : List Node) (marks : List Bool) (table : List Ref) (n : Node) → AreFolded ns marks table → HasMarkedOperands marks n → HasFoldedFor ns table n

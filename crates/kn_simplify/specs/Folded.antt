@@ -1,5 +1,5 @@
 -- Terms in which no constant is left to fold.
-use Rattle.std.specs.Prelude.{ℕ, ◌≡◌, ◌≤◌, Bool, true, List, slice_get, slice_index_or, nat_eq, false, Some}
+use Rattle.std.specs.Prelude.{ℕ, ◌≡◌, ◌⊎◌, ◌≤◌, Bool, true, List, slice_get, slice_index_or, nat_eq, false, Some}
 use Rattle.kn_word.specs.declared.Op.{Op}
 use Rattle.kn_word.specs.declared.Op.TheVariants as ops
 use Rattle.kn_term.specs.declared.node.Node.{Node}
@@ -15,6 +15,10 @@ IsWord (Input n k width) = ⊥
 IsWord (Apply op x y) = ⊥
 IsWord (Choice c x y) = ⊥
 
+-- a term is a word, or this other term
+abbrev pub IsWordOr : Term → Term → Type 0
+IsWordOr other t = IsWord t ⊎ (t ≡ other)
+
 -- with this word on one side an operator, which does not mind the order, always gives the other operand or this word
 abbrev pub is_idle : Op → ℕ → Bool
 is_idle ops.Add w = nat_eq w 0
@@ -22,6 +26,18 @@ is_idle ops.Mul w = nat_eq w 1
 is_idle ops.And w = nat_eq w 0
 is_idle ops.Or w = nat_eq w 0
 is_idle op w = false
+
+-- with one operand on both sides an operator always gives this operand or one word
+abbrev pub is_idle_twice : Op → Bool
+is_idle_twice ops.Sub = true
+is_idle_twice ops.And = true
+is_idle_twice ops.Or = true
+is_idle_twice ops.Xor = true
+is_idle_twice ops.Urem = true
+is_idle_twice ops.Eq = true
+is_idle_twice ops.Ult = true
+is_idle_twice ops.Slt = true
+is_idle_twice op = false
 
 -- an operator on two terms is needed: they are not both words, and with neither is it idle
 pub record IsNeeded (op : Op) (x y : Term) : Type 0 where

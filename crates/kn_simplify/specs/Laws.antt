@@ -1,8 +1,7 @@
 -- What an operator gives where something is known of its operands.
 use Rattle.std.specs.Prelude.{◌≡◌, ◌⊎◌, ℕ, Bool, true, false, Option, Some, None}
 use Rattle.kn_word.specs.declared.Op.{Op}
-use Rattle.kn_word.specs.declared.Op.TheVariants as ops
-use Rattle.kn_simplify.specs.Folded.{is_idle}
+use Rattle.kn_simplify.specs.Folded.{is_idle, is_idle_twice}
 use Rattle.kn_simplify.specs.declared.laws.Outcome.{Outcome}
 use Rattle.kn_simplify.specs.declared.laws.Outcome.TheVariants as outcomes
 
@@ -21,18 +20,6 @@ IsWordOf (Some w) x = x ≡ w
 abbrev pub IsUnknown : Option ℕ → Type 0
 IsUnknown None = Unit {0}
 IsUnknown (Some w) = ⊥
-
--- with one operand on both sides an operator always gives this operand or one word
-abbrev pub is_idle_twice : Op → Bool
-is_idle_twice ops.Sub = true
-is_idle_twice ops.And = true
-is_idle_twice ops.Or = true
-is_idle_twice ops.Xor = true
-is_idle_twice ops.Urem = true
-is_idle_twice ops.Eq = true
-is_idle_twice ops.Ult = true
-is_idle_twice ops.Slt = true
-is_idle_twice op = false
 
 -- An operator is needed as far as is known of its operands: not both are words, with neither is it idle, and it is not
 -- idle with the same on both sides.

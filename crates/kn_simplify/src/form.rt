@@ -2,9 +2,12 @@
 
 ghost use Rattle.std.specs.Prelude.{◌≡◌, ◌<◌, length, true, MatchOption, IfOk, OnErr};
 ghost use Rattle.kn_built.specs.Built.{Extends};
+ghost use Rattle.kn_word.specs.declared.Op.{Op as OpOf};
+ghost use Rattle.kn_term.specs.declared.node.Ref.{Ref as RefOf};
+ghost use Rattle.kn_term.specs.declared.node.Node.TheVariants.{Apply as ApplyNode};
 ghost use Rattle.kn_term.specs.Terms.{Word, Apply, Choice};
 ghost use Rattle.kn_term.specs.Nodes.{term_at, term_of, terms_of, IsNodeAt};
-ghost use Rattle.kn_simplify.specs.Folded.{IsWord, IsFoldedTop};
+ghost use Rattle.kn_simplify.specs.Folded.{IsWord, IsWordOr, IsFoldedTop, is_idle_twice};
 ghost use Rattle.kn_simplify.specs.Simpler.{form_term, IsFormIn, IsFormOf};
 
 use crate::laws::{Outcome, outcome_of};
@@ -21,11 +24,12 @@ pub enum Form {
     Term(Ref),
 }
 
-/// A simpler form of a node over the terms of a list; None where no rule has one, and never at an operator on two words
-/// or a choice by a word.
+/// A simpler form of a node over the terms of a list; None where no rule has one, and never at an operator that is not
+/// needed or a choice by a word.
 pub fn form_of(terms: &Terms, node: Node) -> Option<Form>
     requires { IsNodeAt (length terms.now) node }
-    ensures { MatchOption result (IsFoldedTop (term_of (terms_of terms.now) node)) (λ f. IsFormOf terms.now f (term_of (terms_of terms.now) node)) }
+    ensures form { MatchOption result (IsFoldedTop (term_of (terms_of terms.now) node)) (λ f. IsFormOf terms.now f (term_of (terms_of terms.now) node)) }
+    ensures twice { (op : OpOf) (x : RefOf) → node ≡ ApplyNode op x x → is_idle_twice op ≡ true → MatchOption result ⊥ (λ f. IsWordOr (term_at terms.now x.index) (form_term terms.now f)) }
 {
     match node {
         Node::Konst(_) => None,
@@ -39,7 +43,8 @@ pub fn form_of(terms: &Terms, node: Node) -> Option<Form>
 fn form_of_operator(terms: &Terms, op: Op, x: Ref, y: Ref) -> Option<Form>
     requires x { x.index < length terms.now }
     requires y { y.index < length terms.now }
-    ensures { MatchOption result (IsFoldedTop (Apply op (term_at terms.now x.index) (term_at terms.now y.index))) (λ f. IsFormOf terms.now f (Apply op (term_at terms.now x.index) (term_at terms.now y.index))) }
+    ensures form { MatchOption result (IsFoldedTop (Apply op (term_at terms.now x.index) (term_at terms.now y.index))) (λ f. IsFormOf terms.now f (Apply op (term_at terms.now x.index) (term_at terms.now y.index))) }
+    ensures twice { x ≡ y → is_idle_twice op ≡ true → MatchOption result ⊥ (λ f. IsWordOr (term_at terms.now x.index) (form_term terms.now f)) }
 {
     terms.order();
     let left = word_of(terms, x);
@@ -85,7 +90,8 @@ fn word_of(terms: &Terms, r: Ref) -> Option<u16>
 fn are_same(terms: &Terms, x: Ref, y: Ref) -> bool
     requires x { x.index < length terms.now }
     requires y { y.index < length terms.now }
-    ensures { result ≡ true → term_at terms.now x.index ≡ term_at terms.now y.index }
+    ensures term { result ≡ true → term_at terms.now x.index ≡ term_at terms.now y.index }
+    ensures same { x ≡ y → result ≡ true }
 {
     let left = terms.node(x);
     let right = terms.node(y);

@@ -2,8 +2,8 @@
 
 ghost use Rattle.std.specs.Prelude.{◌≡◌, ℕ, ◌<◌, true, false, MatchOption};
 ghost use Rattle.kn_word.specs.Words.{val};
-ghost use Rattle.kn_simplify.specs.Folded.{is_idle};
-ghost use Rattle.kn_simplify.specs.Laws.{outcome_word, IsWordOf, MayBeNeeded, is_idle_twice};
+ghost use Rattle.kn_simplify.specs.Folded.{is_idle, is_idle_twice};
+ghost use Rattle.kn_simplify.specs.Laws.{outcome_word, IsWordOf, MayBeNeeded};
 
 use kn_ops::grouped_rows;
 use kn_word::{Op, apply};

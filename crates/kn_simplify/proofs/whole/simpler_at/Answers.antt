@@ -11,7 +11,7 @@ returns-in-Some-clause-simpler c =
     let old = c.args.terms.now in
     let over = c.over_simpler-over.ensures.term old c.requires.table in
     let t = form_term old c.in-Some.form in
-    let for : StandsFor t (term_at old c.args.place) = for_twice _ _ _ c.in-Some.ensures.term (for_twice _ _ _ over.1 (for_same _ _ (sym c.node-node.ensures.term))) in
+    let for : StandsFor t (term_at old c.args.place) = for_twice _ _ _ c.in-Some.ensures.form.term (for_twice _ _ _ over.1 (for_same _ _ (sym c.node-node.ensures.term))) in
     if_both c.enter.result (λ (r : Ref). term_at c.enter.new.terms r.index ≡ t) (λ (r : Ref). r.index < length c.enter.new.terms) (λ (r : Ref). IsSimpler c.enter.new.terms c.args.place r)
     (λ r. named old c.enter.new.terms c.args.place t r c.requires.place c.enter.ensures.grows for) c.enter.ensures.term c.enter.ensures.stands
 
