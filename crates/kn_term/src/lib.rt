@@ -7,7 +7,7 @@ mod valuation;
 
 pub use node::{Literal, Node, Ref};
 pub use std::alloc::AllocError as Memory;
-pub use terms::Terms;
+pub use terms::{Terms, words_by_inputs};
 pub use valuation::{Valuation, one_list};
 
 #[cfg(test)]

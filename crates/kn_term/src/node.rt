@@ -1,5 +1,7 @@
 //! Nodes of lists of terms, and what names them.
 
+use kn_word::Op;
+
 /// Names a node of a list of terms by its place.
 #[derive(Clone, Copy, Debug, Default, PartialEq, Eq)]
 pub struct Ref {
@@ -20,4 +22,8 @@ pub enum Node {
     Konst(u16),
     /// The input of a network's node by its index there, with so many bits, 1 to 16.
     Input { node: u32, index: u32, width: u32 },
+    /// What an operator makes of two terms.
+    Apply(Op, Ref, Ref),
+    /// The second term where the first is not 0, else the third.
+    Ite(Ref, Ref, Ref),
 }

@@ -1,0 +1,5 @@
+pub mod Digits
+pub mod Units
+pub mod Folding
+pub mod Marking
+pub mod Simpler
