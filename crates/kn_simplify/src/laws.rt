@@ -32,6 +32,7 @@ macro_rules! law_arms {
     };
 }
 
+/// The outcome that is listed for an operand's word; None at other words.
 macro_rules! picked {
     ($operand:ident $($word:pat => $outcome:expr),*) => {
         match $operand {

@@ -15,7 +15,9 @@ use std::alloc::{AllocError, Global};
 /// A term with the same words as a term: each operator and each choice in it, from its operands up, is simpler where it
 /// always gives a word or one of its operands. A term that several share is done once. The answer reads no other input,
 /// and is folded: no operator in it is on two words, none is `add`, `and` or `or` with 0 or `mul` with 1, and no choice
-/// is by a word. Earlier Refs keep their terms. Err is want of memory, and leaves the list as it was.
+/// is by a word. It takes time and memory by the length of the list, the latter from `alloc` while it works; where the
+/// operands are simple already, `simplify_top` takes one step. Earlier Refs keep their terms. Err is want of memory, and
+/// leaves the list as it was.
 pub fn simplify(alloc: Global, terms: &mut Terms, r: Ref) -> Result<Ref, AllocError>
     requires { r.index < length terms.old }
     ensures value { IfOk result (λ s. (a : Valuation) → ev a (term_at terms.new s.index) ≡ ev a (term_at terms.old r.index)) }
