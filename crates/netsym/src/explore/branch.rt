@@ -125,7 +125,8 @@ fn put_copies(
 
 /// Err where there are more copies than the network's limit of dstates.
 fn within_limit(net: &Net, tick: u32, copies: &[NetworkCopy]) -> Result<(), Stop>
-    ensures { IfErr result (λ s. (s ≡ Stop.Limit LimitKind.Dstates tick) × (net.now.limits.dstates < length copies.now)) }
+    ensures few { OnOk result (length copies.now ≤ net.now.limits.dstates) }
+    ensures stop { IfErr result (λ s. (s ≡ Stop.Limit LimitKind.Dstates tick) × (net.now.limits.dstates < length copies.now)) }
 {
     if copies.len() > net.limits.dstates {
         return Err(Stop::Limit {
@@ -149,6 +150,7 @@ fn turn(
     requires kept { AreKept (live_of keep) net.now list.items }
     requires turned { AreTurned (live_of keep) (written_of keep) net.now place.tick place.node list.items }
     ensures ok { IfOk result (λ v. v.items ≡ flat_map (kept_copies (live_of keep) net.now place.node place.tick) list.items) }
+    ensures few { IfOk result (λ v. length v.items ≤ net.now.limits.dstates) }
     ensures stop { IfErr result (StopsIn keep net.now place.tick) }
 {
     let mut out = Vec::new(alloc);
@@ -198,6 +200,7 @@ fn settle_all(
     requires kept { AreKept (live_of keep) net.now list.items }
     requires before { list.items ≡ copies_before (live_of keep) (written_of keep) net.now place.tick place.node }
     ensures ok { IfOk result (λ v. v.items ≡ flat_map (kept_settled (live_of keep) net.now place.tick place.node) list.items) }
+    ensures few { IfOk result (λ v. length v.items ≤ net.now.limits.dstates) }
     ensures stop { IfErr result (StopsIn keep net.now place.tick) }
 {
     let mut out = Vec::new(alloc);

@@ -62,6 +62,7 @@ fn push(path: PathTaken, out: &mut Vec<PathTaken>) -> Result<(), AllocError>
 /// Appends a path. TooMany: there are then more than the network's limit of states.
 fn put(net: &Net, path: PathTaken, out: &mut Vec<PathTaken>) -> Result<(), EventStop>
     ensures ok { OnOk result (out.new.items ≡ out.old.items ++ (path ∷ [])) }
+    ensures few { OnOk result (length out.new.items ≤ net.now.limits.states) }
     ensures many { IsErrOf result EventStop.TooMany → (out.new.items ≡ out.old.items ++ (path ∷ [])) × (net.now.limits.states < length out.new.items) }
 {
     push(path, out)?;
