@@ -10,7 +10,8 @@ use Rattle.kn_model.specs.Nodes.{State}
 use Rattle.kn_model.specs.Deciding.{IsPlain, joined}
 use Rattle.kn_model.specs.Reports.{StateLine, FailureLine, singles}
 use Rattle.netsym.specs.Plain.{ArePlain, AreLong}
-use Rattle.netsym.specs.Listing.{lines_from, numbers, reach_of, failures_in, dstates_from, failures_from}
+use Rattle.kn_model.specs.Nets.{Network}
+use Rattle.netsym.specs.Listing.{lines_from, numbers, reach_of, failures_in, dstates_from, failures_from, report_of}
 
 pub more_singles : (xs all : List (List ℕ)) (n f k : ℕ) → k < n → xs ++ singles (n - k) (f + k) ≡ all → (xs ++ (((f + k) ∷ []) ∷ [])) ++ singles (n - (k + 1)) (f + (k + 1)) ≡ all
 more_singles xs all n f k less so_far =
@@ -71,3 +72,11 @@ listed_more n xs d x states states' dstates dstates' failures failures' so_far l
           ∙ ap (λ (l : List (List (State Term))). failures ++ failures_from n d (length states) l) (sym cut) ∙ so_far.failures_are;
       plain = subst ArePlain (sym (take_more xs d x less ∙ ap (λ (y : List (State Term)). take d xs ++ (y ∷ [])) (sym is))) (all_more (λ (ss : List (State Term)). AllByRecursion (λ (s : State Term). IsPlain s.own) ss) (take d xs) x so_far.plain plain);
     }
+
+long_from : (nodes i : ℕ) (xs : List (List (State Term))) → length (dstates_from nodes i xs) ≡ length xs
+long_from nodes i [] = refl
+long_from nodes i (ss ∷ xs) = ap suc (long_from nodes (i + nodes) xs)
+
+-- there is one dstate for each scenario
+pub report_long : (net : Network) (xs : List (List (State Term))) → length (report_of net xs).dstates ≡ length xs
+report_long net xs = long_from (length net.nodes) 0 xs

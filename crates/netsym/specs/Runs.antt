@@ -31,12 +31,14 @@ pub record Reads (left left' : Option (List ℕ)) (bytes : List ℕ) : Type 0 wh
   pub end : IsAtEnd left'
   pub fits : length bytes ≤ limit
 
--- The text is that of a report on the network of the file: what copying the whole network at every branch gives.
+-- The text is that of a report on the network of the file: what copying the whole network at every branch gives. It has no
+-- more dstates than the network's limit.
 pub record IsReportOn (bytes : List ℕ) (text : List ℕ) (r : Report) : Type 0 where
   pub net : Network
   pub form : IsFile bytes net
   pub given : Gives r net
   pub mapping : r.mapping ≡ Cob
+  pub within : length r.dstates ≤ net.limits.dstates
   pub text_is : text ≡ report_text r
 
 -- the text is that of a report on the network, and the status says whether a failure is reached
@@ -44,6 +46,7 @@ pub record IsTold (net : Network) (status : Status) (text : List ℕ) : Type 0 w
   pub report : Report
   pub given : Gives report net
   pub mapping : report.mapping ≡ Cob
+  pub within : length report.dstates ≤ net.limits.dstates
   pub status_is : status ≡ (if nat_eq (reached_in report) 0 then statuses.Clean else statuses.Found)
   pub text_is : text ≡ report_text report
 

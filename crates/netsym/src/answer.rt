@@ -1,6 +1,6 @@
 //! What the program answers to a network file.
 
-ghost use Rattle.std.specs.Prelude.{◌≡◌, ◌≤◌, ℕ, IfOk, IfErr, string_bytes, nat_eq, if◌then◌else◌};
+ghost use Rattle.std.specs.Prelude.{◌≡◌, ◌≤◌, ℕ, length, IfOk, IfErr, string_bytes, nat_eq, if◌then◌else◌};
 ghost use Rattle.std.specs.List.{flat_map};
 ghost use Rattle.kn_model.specs.Laws.{IsNet};
 ghost use Rattle.kn_model.specs.Reports.{Cob, Gives};
@@ -28,6 +28,7 @@ pub fn report_of_net(alloc: Global, net: &Net) -> Result<Report, Stop>
     requires bare { IsBare net.now }
     ensures given { IfOk result (λ r. Gives r net.now) }
     ensures mapping { IfOk result (λ r. r.mapping ≡ Cob) }
+    ensures within { IfOk result (λ r. length r.dstates ≤ net.now.limits.dstates) }
     ensures passed { IfErr result (IsPassed net.now) }
 {
     let mut scenarios = explore(alloc, net)?;

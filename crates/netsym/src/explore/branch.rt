@@ -125,7 +125,8 @@ fn put_copies(
 
 /// Err where there are more copies than the network's limit of dstates.
 fn within_limit(net: &Net, tick: u32, copies: &[NetworkCopy]) -> Result<(), Stop>
-    ensures { IfErr result (λ s. (s ≡ Stop.Limit LimitKind.Dstates tick) × (net.now.limits.dstates < length copies.now)) }
+    ensures few { OnOk result (length copies.now ≤ net.now.limits.dstates) }
+    ensures stop { IfErr result (λ s. (s ≡ Stop.Limit LimitKind.Dstates tick) × (net.now.limits.dstates < length copies.now)) }
 {
     if copies.len() > net.limits.dstates {
         return Err(Stop::Limit {
@@ -149,6 +150,7 @@ fn turn(
     requires kept { AreKept (live_of keep) net.now list.items }
     requires turned { AreTurned (live_of keep) (written_of keep) net.now place.tick place.node list.items }
     ensures ok { IfOk result (λ v. v.items ≡ flat_map (kept_copies (live_of keep) net.now place.node place.tick) list.items) }
+    ensures few { IfOk result (λ v. length v.items ≤ net.now.limits.dstates) }
     ensures stop { IfErr result (StopsIn keep net.now place.tick) }
 {
     let mut out = Vec::new(alloc);
@@ -198,6 +200,7 @@ fn settle_all(
     requires kept { AreKept (live_of keep) net.now list.items }
     requires before { list.items ≡ copies_before (live_of keep) (written_of keep) net.now place.tick place.node }
     ensures ok { IfOk result (λ v. v.items ≡ flat_map (kept_settled (live_of keep) net.now place.tick place.node) list.items) }
+    ensures few { IfOk result (λ v. length v.items ≤ net.now.limits.dstates) }
     ensures stop { IfErr result (StopsIn keep net.now place.tick) }
 {
     let mut out = Vec::new(alloc);
@@ -222,6 +225,7 @@ fn run_tick(
     requires kept { AreKept (live_of keep) net.now list.items }
     requires held { list.items ≡ held_at (live_of keep) (written_of keep) net.now tick }
     ensures ok { IfOk result (λ v. v.items ≡ run_nodes (live_of keep) (written_of keep) net.now tick (length net.now.nodes) list.items) }
+    ensures few { IfOk result (λ v. length list.items ≤ net.now.limits.dstates → length v.items ≤ net.now.limits.dstates) }
     ensures stop { IfErr result (StopsIn keep net.now tick) }
 {
     let mut list = list;
@@ -237,7 +241,8 @@ fn shut_tick(
     keep: Keep,
     list: Vec<NetworkCopy>,
 ) -> Result<Vec<NetworkCopy>, AllocError>
-    ensures { IfOk result (λ v. v.items ≡ shut_all (live_of keep) (written_of keep) list.items) }
+    ensures ok { IfOk result (λ v. v.items ≡ shut_all (live_of keep) (written_of keep) list.items) }
+    ensures few { IfOk result (λ v. length v.items ≤ length list.items) }
 {
     let mut out = Vec::new(alloc);
     for copy in list {
@@ -256,8 +261,10 @@ fn copies_at(alloc: Global, net: &Net, keep: Keep, tick: u32) -> Result<Vec<Netw
     requires plain { HasPlainPrograms net.now }
     requires bare { IsBare net.now }
     ensures ok { IfOk result (λ v. v.items ≡ held_at (live_of keep) (written_of keep) net.now tick) }
+    ensures few { IfOk result (λ v. length v.items ≤ net.now.limits.dstates) }
     ensures stop { IfErr result (StopsBefore keep net.now tick) }
 {
+    net.bounds();
     let mut list = Vec::new(alloc);
     push(NetworkCopy::opening(alloc, net)?, &mut list)?;
     for now in 0..tick {
@@ -274,6 +281,7 @@ pub fn all_copies(alloc: Global, net: &Net, tick: u32) -> Result<Vec<NetworkCopy
     requires plain { HasPlainPrograms net.now }
     requires bare { IsBare net.now }
     ensures all { IfOk result (λ v. v.items ≡ map seen_in (cob terms net.now tick)) }
+    ensures few { IfOk result (λ v. length v.items ≤ net.now.limits.dstates) }
     ensures stop { IfErr result (StopsBefore Keep.All net.now tick) }
 {
     let copies = copies_at(alloc, net, Keep::All, tick)?;
@@ -300,6 +308,7 @@ pub fn explore(alloc: Global, net: &Net) -> Result<Vec<Scenario>, Stop>
     requires bare { IsBare net.now }
     ensures whole { IfOk result (λ v. AreLong (length net.now.nodes) v.items) }
     ensures all { IfOk result (λ v. v.items ≡ map states_in (held_at (live_of Keep.Possible) tidied net.now net.now.limits.ticks)) }
+    ensures few { IfOk result (λ v. length v.items ≤ net.now.limits.dstates) }
     ensures passed { IfErr result (IsPassed net.now) }
 {
     let copies = copies_at(alloc, net, Keep::Possible, net.limits.ticks)?;

@@ -62,6 +62,7 @@ fn push(path: PathTaken, out: &mut Vec<PathTaken>) -> Result<(), AllocError>
 /// Appends a path. TooMany: there are then more than the network's limit of states.
 fn put(net: &Net, path: PathTaken, out: &mut Vec<PathTaken>) -> Result<(), EventStop>
     ensures ok { OnOk result (out.new.items ≡ out.old.items ++ (path ∷ [])) }
+    ensures few { OnOk result (length out.new.items ≤ net.now.limits.states) }
     ensures many { IsErrOf result EventStop.TooMany → (out.new.items ≡ out.old.items ++ (path ∷ [])) × (net.now.limits.states < length out.new.items) }
 {
     push(path, out)?;
@@ -85,6 +86,7 @@ fn run(
     requires spot { IsIn net.now spot.now }
     requires lives { lives (live_of keep) way ≡ true }
     ensures ok { OnOk result (out.new.items ≡ out.old.items ++ map (path_of terms) (filter (lives (live_of keep)) (ways terms (here_of net.now spot.now) fuel way))) }
+    ensures few { OnOk result (length out.old.items ≤ net.now.limits.states → length out.new.items ≤ net.now.limits.states) }
     ensures many { IsErrOf result EventStop.TooMany → IsLongFront net.now.limits.states out.new.items (out.old.items ++ map (path_of terms) (filter (lives (live_of keep)) (ways terms (here_of net.now spot.now) fuel way))) }
 {
     let mut way = way;
@@ -129,6 +131,7 @@ fn follow(
     requires spot { IsIn net.now spot.now }
     requires lives { lives (live_of keep) way ≡ true }
     ensures ok { OnOk result (out.new.items ≡ out.old.items ++ map (path_of terms) (filter (lives (live_of keep)) (ways terms (here_of net.now spot.now) fuel (decided terms bit (literal_of decision) way)))) }
+    ensures few { OnOk result (length out.old.items ≤ net.now.limits.states → length out.new.items ≤ net.now.limits.states) }
     ensures many { IsErrOf result EventStop.TooMany → IsLongFront net.now.limits.states out.new.items (out.old.items ++ map (path_of terms) (filter (lives (live_of keep)) (ways terms (here_of net.now spot.now) fuel (decided terms bit (literal_of decision) way)))) }
 {
     if !way.admits(keep, decision) {
@@ -150,8 +153,10 @@ fn handle(
     way: WaySoFar,
 ) -> Result<Vec<PathTaken>, EventStop>
     requires spot { IsIn net.now spot.now }
+    requires some { 1 ≤ net.now.limits.states }
     requires lives { lives (live_of keep) way ≡ true }
     ensures ok { IfOk result (λ v. v.items ≡ map (path_of terms) (filter (lives (live_of keep)) (runs_from terms (here_of net.now spot.now) entry way))) }
+    ensures few { IfOk result (λ v. length v.items ≤ net.now.limits.states) }
     ensures many { IsErrOf result EventStop.TooMany → net.now.limits.states < length (map (path_of terms) (filter (lives (live_of keep)) (runs_from terms (here_of net.now spot.now) entry way))) }
 {
     let mut out = Vec::new(alloc);
@@ -183,6 +188,7 @@ pub fn event_paths(
     requires low { handler_of event < 10 }
     requires lives { live_of keep state.now.own ≡ true }
     ensures ok { IfOk result (λ v. v.items ≡ filter (path_lives (live_of keep)) (event_paths terms net.now node tick (event_of event) state.now)) }
+    ensures few { IfOk result (λ v. length v.items ≤ net.now.limits.states) }
     ensures many { IsErrOf result EventStop.TooMany → net.now.limits.states < length (filter (path_lives (live_of keep)) (event_paths terms net.now node tick (event_of event) state.now)) }
 {
     net.bounds();

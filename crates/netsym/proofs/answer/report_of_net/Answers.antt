@@ -1,4 +1,5 @@
-use Rattle.std.proofs.Common.{◌≡◌, ◌∙◌, ap, sym, subst, List, length, ℕ}
+use Rattle.std.proofs.Common.{◌≡◌, ◌≤◌, ◌∙◌, ap, sym, subst, List, length, ℕ}
+use Rattle.std.proofs.lemmas.List.Sorted.{length_permutation}
 use Rattle.std.specs.List.Sorted.{IsPermutation}
 use Rattle.kn_model.specs.Terms.{Term}
 use Rattle.kn_model.specs.Nodes.{State}
@@ -7,6 +8,7 @@ use Rattle.netsym.specs.Plain.{ArePlain, AreLong}
 use Rattle.netsym.specs.Listing.{report_of}
 use Rattle.netsym.proofs.Sorting.{all_moved}
 use Rattle.netsym.proofs.HeldGiven.{held_given}
+use Rattle.netsym.proofs.Making.{report_long}
 use Rattle.netsym.proofs.answer.report_of_net.Goals as goal
 
 pub report_from-requires : goal.report_from-requires
@@ -24,3 +26,11 @@ returns-clause-given c =
     let sorted = c.sort_by_name.ensures.sorted long in
     let plain = subst ArePlain listed c.in_ok-report.ensures.plain in
     subst (λ (r : Report). Gives r net) (sym (c.in_ok-report.ensures.report ∙ ap (report_of net) listed)) (held_given net c.requires.sound list same sorted plain)
+
+pub returns-clause-within : goal.returns-clause-within
+returns-clause-within c =
+    let net = c.args.net.now in
+    let list = c.sort_by_name.new.list.items in
+    let same : c.in_ok-report.report ≡ report_of net list = c.in_ok-report.ensures.report ∙ ap (report_of net) c.deref.ensures.value in
+    let long : length (report_of net list).dstates ≡ length c.in_ok-scenarios.scenarios.items = report_long net list ∙ length_permutation c.in_ok-scenarios.scenarios.items list c.sort_by_name.ensures.same in
+    subst (λ (r : Report). length r.dstates ≤ net.limits.dstates) (sym same) (subst (λ (n : ℕ). n ≤ net.limits.dstates) (sym long) c.in_ok-scenarios.ensures.few)

@@ -10,7 +10,7 @@ use Rattle.netsym.proofs.Held.{held_kept}
 use Rattle.netsym.proofs.explore.branch.copies_at.Goals as goal
 
 pub run_tick-requires-clause-kept : goal.run_tick-requires-clause-kept
-run_tick-requires-clause-kept c = subst (AreKept (live_of c.args.keep) c.args.net.now) (sym c.loop-now.invariant) (held_kept (live_of c.args.keep) (keep_falls c.args.keep) (written_of c.args.keep) c.args.net.now c.loop-now.now)
+run_tick-requires-clause-kept c = subst (AreKept (live_of c.args.keep) c.args.net.now) (sym c.loop-now.invariant.made) (held_kept (live_of c.args.keep) (keep_falls c.args.keep) (written_of c.args.keep) c.args.net.now c.loop-now.now)
 
 pub returns-in_err-run-clause-stop : goal.returns-in_err-run-clause-stop
 returns-in_err-run-clause-stop c =

@@ -20,5 +20,5 @@ returns-in_err-within_limit-clause-stop c =
     let so : IfErr c.within_limit.result (StopsIn c.args.keep net tick) =
     err_weaker c.within_limit.result _ (StopsIn c.args.keep net tick)
     (λ s h. subst (StopsIn c.args.keep net tick) (sym h.0) (refl, many_in_turns live f net tick node c.args.list.items c.loop-copy.yielded c.next.new.self.rest.items c.in-Some.copy c.deref.result.now c.requires.turned all made h.1))
-    c.within_limit.ensures in
+    c.within_limit.ensures.stop in
     search rules

@@ -1,4 +1,4 @@
-use Rattle.std.proofs.Common.{◌≡◌, ◌++◌}
+use Rattle.std.proofs.Common.{◌≡◌, ◌≤◌, ◌++◌, length}
 use Rattle.std.specs.Prelude.{flat_map}
 use Rattle.netsym.specs.Deciding.{live_of}
 use Rattle.netsym.specs.Keeping.{AreKept, kept_copies}
@@ -8,5 +8,6 @@ abbrev pub invariant-loop-copy : goal.invariant-loop-copy
 invariant-loop-copy l = record {
   made : l.out.items ≡ flat_map (kept_copies (live_of l.keep) l.net l.place.node l.place.tick) l.yielded;
   all : l.fn.list.items ≡ l.yielded ++ l.copy-iterator.rest.items;
+  few : length l.out.items ≤ l.net.limits.dstates;
   kept : AreKept (live_of l.keep) l.net l.copy-iterator.rest.items;
 }
