@@ -1,6 +1,6 @@
 //! What a conflict closes.
 
-ghost use Rattle.std.specs.Prelude.{◌≡◌, ◌<◌, ◌++◌, ◌∷◌, [], ℕ, List, IfOk, OnOk, MatchOption, length, map};
+ghost use Rattle.std.specs.Prelude.{◌≡◌, ◌<◌, ◌++◌, ◌∷◌, [], ℕ, IfOk, MatchOption, map};
 ghost use Rattle.kn_cnf.specs.Formulas.{items_of};
 ghost use Rattle.kn_unsat.specs.Good.{Checks};
 ghost use Rattle.kn_sat.specs.Trails.{undecided, reasons_of, IsFlipped};

@@ -1,7 +1,6 @@
 //! In which clauses each literal stands.
 
-ghost use Rattle.std.specs.Prelude.{◌≡◌, ◌<◌, ◌+◌, ℕ, IfOk, OnOk, length, slice_get, Some, None, [], ◌∷◌, ◌++◌};
-ghost use Rattle.std.specs.List.{AllByRecursion};
+ghost use Rattle.std.specs.Prelude.{◌≡◌, ◌<◌, ◌+◌, ℕ, IfOk, OnOk, length, Some, None, []};
 ghost use Rattle.kn_sat.specs.Occurrences.{AreLower, AreWithin};
 
 use kn_cnf::{Clause, Lit};

@@ -1,10 +1,10 @@
 //! Unit propagation.
 
-ghost use Rattle.std.specs.Prelude.{◌≡◌, ◌<◌, ◌++◌, ◌∷◌, [], ℕ, List, Bool, IfOk, IfSome, OnOk, MatchOption, None, Some, length, map};
+ghost use Rattle.std.specs.Prelude.{◌≡◌, ◌<◌, ◌++◌, ◌∷◌, [], ℕ, List, IfOk, IfSome, OnOk, MatchOption, None, Some, length, map};
 ghost use Rattle.std.specs.List.{AllByRecursion};
 ghost use Rattle.kn_cnf.specs.declared.clauses.Lit.{Lit};
 ghost use Rattle.kn_cnf.specs.Formulas.{items_of, AreBelow};
-ghost use Rattle.kn_cnf.specs.Units.{valued, lit_value};
+ghost use Rattle.kn_cnf.specs.Units.{lit_value};
 ghost use Rattle.kn_sat.specs.Trails.{latest, IsGrown};
 ghost use Rattle.kn_sat.specs.Standings.{Means, IsConflict, IsVisited, IsScanned, IsSettled, IsFirstOpen, AreAssigned};
 

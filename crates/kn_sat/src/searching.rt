@@ -1,6 +1,6 @@
 //! The search.
 
-ghost use Rattle.std.specs.Prelude.{◌≡◌, ◌<◌, ◌≤◌, ◌++◌, ◌∷◌, ◌^◌, [], ℕ, List, Bool, IfOk, OnOk, length, map};
+ghost use Rattle.std.specs.Prelude.{◌≡◌, ◌<◌, ◌≤◌, ◌^◌, IfOk, length, map};
 ghost use Rattle.kn_cnf.specs.Encoding.{bits_from};
 ghost use Rattle.kn_cnf.specs.Formulas.{items_of, AreBelow};
 ghost use Rattle.kn_cnf.specs.Truth.{AreNeverMet};

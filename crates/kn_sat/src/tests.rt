@@ -1,9 +1,9 @@
 //! The rows of searches, and two small circuits.
 
-ghost use Rattle.std.specs.Prelude.{◌≡◌, ◌<◌, ◌≤◌, IfOk, map};
+ghost use Rattle.std.specs.Prelude.{◌≡◌, ◌<◌, ◌≤◌, IfOk};
 ghost use Rattle.std.specs.List.{AllByRecursion};
 ghost use Rattle.kn_cnf.specs.declared.clauses.Lit.{Lit};
-ghost use Rattle.kn_cnf.specs.Formulas.{items_of, AreBelow};
+ghost use Rattle.kn_cnf.specs.Formulas.{AreBelow};
 
 use super::*;
 use kn_aig::Aig;

@@ -1,6 +1,6 @@
 //! The literals that are assigned true, and why.
 
-ghost use Rattle.std.specs.Prelude.{◌≡◌, ◌<◌, ◌++◌, ◌∷◌, [], ℕ, List, IfOk, OnOk, OnErr, IfSome, MatchOption, None, Some, length, slice_index_or};
+ghost use Rattle.std.specs.Prelude.{◌≡◌, ◌<◌, ◌++◌, ◌∷◌, [], IfOk, OnOk, OnErr, IfSome, MatchOption, None, Some, length};
 ghost use Rattle.kn_cnf.specs.Units.{valued, lit_value};
 ghost use Rattle.kn_sat.specs.Trails.{latest};
 
