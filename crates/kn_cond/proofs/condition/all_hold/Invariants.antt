@@ -1,0 +1,7 @@
+-- The literals so far hold.
+use Rattle.std.proofs.Common.{◌≡◌, drop}
+use Rattle.kn_cond.specs.Conditions.{holds}
+use Rattle.kn_cond.proofs.condition.all_hold.Given as goal
+
+abbrev pub invariant-loop-literal : goal.invariant-loop-literal
+invariant-loop-literal l = holds l.terms l.a l.literals ≡ holds l.terms l.a (drop l.literal-index l.literals)

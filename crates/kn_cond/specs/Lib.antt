@@ -1,0 +1,2 @@
+-- The definitions of conditions.
+pub mod Conditions
