@@ -8,9 +8,9 @@ use std::alloc::AllocError;
 /// What is known of the inputs that meet a condition.
 #[derive(Debug, Drop, PartialEq)]
 pub enum Standing {
-    /// These inputs meet it.
+    /// These inputs meet it: the least ones, where a caller says so.
     Inputs(Valuation),
-    /// It was not decided; so many valuations come before each one that meets it.
+    /// It was not decided: at least so many valuations come before each one that meets it.
     Open { leaves: u64 },
 }
 
