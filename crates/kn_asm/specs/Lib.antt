@@ -1,0 +1,6 @@
+pub mod Words
+pub mod Operands
+pub mod Meaning
+pub mod Lines
+pub mod Assembling
+pub mod Tables
