@@ -53,12 +53,14 @@ all_fine all before (l ∷ ls) e =
 
 -- ---- how many instructions there are
 
+positive : (n : ℕ) → (n == 0) ≡ false → 0 < n
+positive n e = let other = eqb-false n 0 e in elim (cases_eq n 0) [ inl z ↦ absurd (other z) | inr differs ↦ omega (arith, differs) ]
+
 some_instr : (before : List Line) (l : Line) (ls : List Line) → AllFine before (l ∷ ls) → 0 < instrs_in before + instrs_in (l ∷ ls)
 some_instr before l [] h =
-    let a = or_parts _ _ h.0.counted in
-    let b = eqb-false (instrs_in before + counted_lem l.content) 0 a.1 in
     let c : instrs_in (l ∷ []) ≡ counted_lem l.content + 0 = refl in
-    elim (cases_eq (instrs_in before + counted_lem l.content) 0) [ inl z ↦ absurd (b z) | inr n ↦ omega (arith, n, c) ]
+    let p : 0 < instrs_in before + counted_lem l.content = positive (instrs_in before + counted_lem l.content) (or_parts _ _ h.0.counted).1 in
+    omega (arith, p, c)
 some_instr before l (m ∷ ls) h =
     let more = some_instr (before ++ l ∷ []) m ls h.1 in
     let e = instrs_more before l in

@@ -4,3 +4,4 @@ pub mod Meaning
 pub mod Lines
 pub mod Assembling
 pub mod Tables
+pub mod Printing

@@ -7,10 +7,12 @@ mod labels;
 mod line;
 mod meaning;
 mod operand;
+mod printing;
 mod words;
 
 pub use assembling::assemble;
 pub use fault::{AsmCause, AsmFault};
+pub use printing::disassemble;
 pub use std::alloc::AllocError as Memory;
 
 #[cfg(test)]

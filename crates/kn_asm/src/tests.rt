@@ -28,6 +28,7 @@ fn halt_at_boot(rt: HostRuntime) -> Result<(), Fail> {
             assert!(rt; program.instr(1).is_none());
             assert_eq!(rt; program.boot(), Some(0));
             assert_eq!(rt; program.handler(1), None);
+            assert!(rt; disassemble(rt.alloc(), &program)?.as_str() == "boot:\n  halt\n");
         }
         Err(_) => assert!(rt; false),
     }
@@ -83,6 +84,15 @@ fn each_shape(rt: HostRuntime) -> Result<(), Fail> {
             assert!(rt; program.instr(15) == Some(Instr::Ret));
             assert!(rt; program.instr(16).is_none());
             assert_eq!(rt; program.handler(9), Some(12));
+            let text = disassemble(rt.alloc(), &program)?;
+            assert!(rt;
+                text.as_str()
+                    .starts_with("boot:\n  const r0, 65535\n  mov r1, r0\n")
+            );
+            match assemble(rt.alloc(), text.as_str()) {
+                Ok(other) => assert!(rt; other == program),
+                Err(_) => assert!(rt; false),
+            }
         }
         Err(_) => assert!(rt; false),
     }

@@ -8,7 +8,7 @@ use crate::program::Instr;
 use kn_ops::instruction_rows;
 use std::alloc::AllocError;
 
-/// An instruction's opcode and fields.
+/// An instruction's opcode and fields, in the order of its eight bytes.
 #[derive(Clone, Copy, PartialEq)]
 pub struct Row {
     pub code: u8,
@@ -22,8 +22,11 @@ pub struct Row {
 /// What is wrong with a row.
 #[derive(Clone, Copy)]
 pub enum RowFault {
+    /// No instruction has the opcode.
     Opcode,
+    /// A field is out of its range, or one that the instruction does not use is not 0.
     Field,
+    /// A target is not below the number of instructions, or the last instruction is none of `jmp`, `ret`, `halt`.
     Target,
 }
 

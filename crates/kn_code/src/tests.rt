@@ -89,6 +89,8 @@ fn halt_reads_and_is_spelled(rt: HostRuntime) -> Result<(), Fail> {
     is_shared::<Instr>();
     is_shared::<Program>();
     is_shared::<CodeFault>();
+    is_shared::<Row>();
+    is_shared::<RowFault>();
     Ok(())
 }
 
