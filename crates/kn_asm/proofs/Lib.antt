@@ -1,0 +1,9 @@
+pub mod Numbers
+pub mod Lists
+pub mod Fields
+pub mod Readings
+pub mod Places
+pub mod Faults
+pub mod Sound
+pub mod Valid
+pub mod Whole

@@ -1,0 +1,8 @@
+-- What is counted so far, and what is left.
+use Rattle.std.proofs.Common.{◌≡◌, ◌+◌, drop}
+use Rattle.std.specs.List.{prefix_len}
+use Rattle.kn_asm.specs.Words.{is_blank}
+use Rattle.kn_asm.proofs.words.blanks.Given as goal
+
+abbrev pub invariant-loop-index : goal.invariant-loop-index
+invariant-loop-index l = l.index + prefix_len is_blank (drop l.index l.bytes) ≡ prefix_len is_blank l.bytes

@@ -1,0 +1,6 @@
+-- A word is text.
+use Rattle.kn_asm.proofs.Numbers.{word_utf8}
+use Rattle.kn_asm.proofs.words.text_of.Goals as goal
+
+pub unreachable-requires : goal.unreachable-requires
+unreachable-requires c = c.in-Err.ensures.cases.0 (word_utf8 c.args.word.now c.requires)
