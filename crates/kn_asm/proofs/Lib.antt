@@ -7,3 +7,8 @@ pub mod Faults
 pub mod Sound
 pub mod Valid
 pub mod Whole
+pub mod Printed
+pub mod PrintedLines
+pub mod Entries
+pub mod Ranks
+pub mod Again

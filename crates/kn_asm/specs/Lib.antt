@@ -5,3 +5,4 @@ pub mod Lines
 pub mod Assembling
 pub mod Tables
 pub mod Printing
+pub mod Laws

@@ -4,6 +4,7 @@
 mod assembling;
 mod fault;
 mod labels;
+mod laws;
 mod line;
 mod meaning;
 mod operand;
@@ -12,6 +13,7 @@ mod words;
 
 pub use assembling::assemble;
 pub use fault::{AsmCause, AsmFault};
+pub use laws::reads_back;
 pub use printing::disassemble;
 pub use std::alloc::AllocError as Memory;
 

@@ -93,6 +93,7 @@ fn each_shape(rt: HostRuntime) -> Result<(), Fail> {
                 Ok(other) => assert!(rt; other == program),
                 Err(_) => assert!(rt; false),
             }
+            reads_back();
         }
         Err(_) => assert!(rt; false),
     }
