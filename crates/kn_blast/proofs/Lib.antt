@@ -1,0 +1,5 @@
+-- The lemmas on circuits of terms.
+pub mod Growing
+pub mod Numbers
+pub mod Digits
+pub mod Steps

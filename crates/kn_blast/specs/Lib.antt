@@ -1,0 +1,2 @@
+-- The definitions of circuits of terms.
+pub mod Spelling

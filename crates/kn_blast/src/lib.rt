@@ -1,0 +1,7 @@
+//! Circuits of terms: sixteen edges that have the bits of a term's word, whatever the inputs are.
+#![tactic(auto)]
+
+mod gates;
+mod words;
+
+pub use std::alloc::AllocError as Memory;
