@@ -3,12 +3,12 @@ use Rattle.std.proofs.Common.{◌≡◌, ℕ, zero, suc, ◌+◌, ◌<◌, Bool,
 use Rattle.std.specs.Prelude.{slice_get, ◌||◌, min, max, Result, Ok, Err, IfOk}
 use Rattle.kn_word.specs.Words.{one_if, one_of}
 use Rattle.kn_built.specs.Built.{Extends}
-use Rattle.kn_built.proofs.BuiltLaws.{extends-same, extends-twice}
+use Rattle.kn_built.proofs.BuiltLaws.{extends-same, extends-twice, length-extends}
 use Rattle.kn_aig.specs.declared.gates.Edge.{Edge}
 use Rattle.kn_aig.specs.declared.gates.AigNode.{AigNode}
 use Rattle.kn_aig.specs.Circuits.{flip, differ, value_of, inputs_of, Stands}
 use Rattle.kn_aig.proofs.Longer.{value_of-extends}
-use Rattle.kn_aig.proofs.Chains.{longer}
+use Rattle.kn_aig.proofs.Chains.{longer as edge_longer}
 use Rattle.kn_blast.specs.Spelling.{number, AllStand, Grows, Spells, Has}
 
 pub grows_same : (ns : List AigNode) → Grows ns ns
@@ -29,7 +29,11 @@ pub edge_kept : (bits : List Bool) (a b : List AigNode) (e : Edge) → Grows a b
 edge_kept bits a b e g s = value_of-extends bits a b e g.extends s
 
 pub stands_kept : (a b : List AigNode) (e : Edge) → Grows a b → Stands a e → Stands b e
-stands_kept a b e g s = longer a b e g.extends s
+stands_kept a b e g s = edge_longer a b e g.extends s
+
+-- a place stays in a longer circuit
+pub longer : (a b : List AigNode) (place : ℕ) → Grows a b → place < length a → place < length b
+longer a b place g h = omega (arith, h, length-extends a b g.extends)
 
 flip_not : (i b : Bool) → flip (not i) b ≡ not (flip i b)
 flip_not true true = refl

@@ -3,3 +3,4 @@ pub mod Growing
 pub mod Numbers
 pub mod Digits
 pub mod Steps
+pub mod Moving

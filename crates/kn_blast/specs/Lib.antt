@@ -1,2 +1,3 @@
 -- The definitions of circuits of terms.
 pub mod Spelling
+pub mod Shifting

@@ -2,6 +2,7 @@
 #![tactic(auto)]
 
 mod gates;
+mod shifts;
 mod words;
 
 pub use std::alloc::AllocError as Memory;

@@ -14,6 +14,6 @@ loop-i-preserved c =
       grows = grows_twice _ _ _ c.loop-i.invariant.grows g;
       word =
           let more = choice_more c.args.aig.now c.loop-i.aig c.ite.new.self c.args.xs.now c.args.ys.now c.loop-i.word.items c.loop-i.i _ _ c.loop-i.invariant.grows g c.requires.x c.requires.y c.requires.same c.loop-i-test.true
-              c.args.c c.in_ok-e.e c.requires.c c.loop-i.invariant.word c.in_ok-e.ensures.stands c.in_ok-e.ensures.value in
+          c.args.c c.in_ok-e.e c.requires.c c.loop-i.invariant.word c.in_ok-e.ensures.stands c.in_ok-e.ensures.value in
           spells_items _ _ _ _ _ c.in_ok-push.ensures.items more;
     }
