@@ -4,3 +4,5 @@ pub mod Numbers
 pub mod Digits
 pub mod Steps
 pub mod Moving
+pub mod Arithmetic
+pub mod Dividing

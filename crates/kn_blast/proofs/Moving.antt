@@ -51,7 +51,7 @@ moved_down r true false h = omega (arith, h)
 moved_down r false true h = omega (arith, h)
 moved_down r false false h = omega (arith, h)
 
-AllStand-take : (ns : List AigNode) (es : List Edge) (i : ℕ) → AllStand ns es → AllStand ns (take i es)
+pub AllStand-take : (ns : List AigNode) (es : List Edge) (i : ℕ) → AllStand ns es → AllStand ns (take i es)
 AllStand-take ns [] i all = subst (AllStand ns) (sym (take_all i [] (omega arith))) all
 AllStand-take ns (e ∷ es) zero all = λ place f is. absurd cc
 AllStand-take ns (e ∷ es) (suc i) all = AllStand-first ns e (take i es) (all zero e refl) (AllStand-take ns es i (AllStand-rest ns e es all))
@@ -73,17 +73,17 @@ spells_down ns [] word e above k enough all many has is = absurd (omega (arith, 
 spells_down ns (x ∷ xs) word e above k enough all many has seen =
     let is : word ≡ xs ++ e ∷ [] = seen ∙ ap (λ (l : List Edge). l ++ e ∷ []) (take_all k xs (omega (arith, many, enough))) in
     record {
-  stand = subst (AllStand ns) (sym is) (AllStand-push ns xs e (AllStand-rest ns x xs all) has.stands);
-  many = ap length is ∙ omega (arith, length-append xs (e ∷ []), many);
-  value = λ bits.
-      let f = value_of bits ns above in
-      let count : length xs ≡ 15 = omega (arith, many) in
-      let below : number bits ns xs < 2 ^ 15 = subst (λ (k : ℕ). number bits ns xs < 2 ^ k) count (number-lt bits ns xs) in
-      ap (number bits ns) is
-      ∙ (number-push bits ns xs e
-      ∙ (ap (λ (k : ℕ). number bits ns xs + weight (value_of bits ns e) k) count
-      ∙ (ap (λ (v : Bool). number bits ns xs + weight v 15) (has.value bits) ∙ moved_down (number bits ns xs) (value_of bits ns x) f below)));
-}
+      stand = subst (AllStand ns) (sym is) (AllStand-push ns xs e (AllStand-rest ns x xs all) has.stands);
+      many = ap length is ∙ omega (arith, length-append xs (e ∷ []), many);
+      value = λ bits.
+          let f = value_of bits ns above in
+          let count : length xs ≡ 15 = omega (arith, many) in
+          let below : number bits ns xs < 2 ^ 15 = subst (λ (k : ℕ). number bits ns xs < 2 ^ k) count (number-lt bits ns xs) in
+          ap (number bits ns) is
+          ∙ (number-push bits ns xs e
+          ∙ (ap (λ (k : ℕ). number bits ns xs + weight (value_of bits ns e) k) count
+          ∙ (ap (λ (v : Bool). number bits ns xs + weight v 15) (has.value bits) ∙ moved_down (number bits ns xs) (value_of bits ns x) f below)));
+    }
 
 -- one place more
 pub spells_moved : (ns : List AigNode) (xs word seen out : List Edge) (way : Way) (above : Edge) (i : ℕ) → length xs ≡ 16 → seen ≡ word
@@ -114,7 +114,7 @@ fills ns e bits = plain (value_of bits ns e) refl where
   plain true is = rw is refl
   plain false is = rw is refl
 
-AllStand-replicate : (ns : List AigNode) (count : ℕ) (e : Edge) → Stands ns e → AllStand ns (replicate count e)
+pub AllStand-replicate : (ns : List AigNode) (count : ℕ) (e : Edge) → Stands ns e → AllStand ns (replicate count e)
 AllStand-replicate ns zero e s = λ place f is. absurd cc
 AllStand-replicate ns (suc count) e s = AllStand-first ns e (replicate count e) s (AllStand-replicate ns count e s)
 

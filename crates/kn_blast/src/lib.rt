@@ -1,6 +1,8 @@
 //! Circuits of terms: sixteen edges that have the bits of a term's word, whatever the inputs are.
 #![tactic(auto)]
 
+mod arith;
+mod division;
 mod gates;
 mod shifts;
 mod words;

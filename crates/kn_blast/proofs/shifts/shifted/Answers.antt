@@ -34,5 +34,5 @@ returns-clause-word c =
     let test : (bits : List Bool) → value_of bits d c.in_ok-is_far.is_far ≡ not (nat_eq (number bits a (drop 4 ys)) 0) =
     λ bits. c.in_ok-is_far.ensures.edge.value bits ∙ ap (λ (k : ℕ). not (nat_eq k 0)) (number-kept bits a b tail c.in_ok-near.ensures.grows all ∙ ap (number bits a) here) in
     if_each c.choice.result _ _ (λ v made. shift_whole a d c.choice.new.aig c.args.way c.args.xs.now ys near far v.items near far c.args.above c.in_ok-is_far.is_far c.incoming-edge.result g c.requires.above c.requires.y c.requires.many c.requires.same refl refl
-        (spells_kept b d near 16 _ c.in_ok-is_far.ensures.grows c.in_ok-near.ensures.word) test c.incoming-edge.ensures.value c.in_ok-far.ensures
-        (choice_seen d c.choice.new.aig v.items c.deref.result.now c.deref-2.result.now far near (λ bits. value_of bits d c.in_ok-is_far.is_far) 16 c.deref.ensures.value c.deref-2.ensures.value c.in_ok-far.ensures.many made)) c.choice.ensures.word
+    (spells_kept b d near 16 _ c.in_ok-is_far.ensures.grows c.in_ok-near.ensures.word) test c.incoming-edge.ensures.value c.in_ok-far.ensures
+    (choice_seen d c.choice.new.aig v.items c.deref.result.now c.deref-2.result.now far near (λ bits. value_of bits d c.in_ok-is_far.is_far) 16 c.deref.ensures.value c.deref-2.ensures.value c.in_ok-far.ensures.many made)) c.choice.ensures.word
