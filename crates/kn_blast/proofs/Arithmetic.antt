@@ -130,3 +130,21 @@ pub product_shifted : (a b e : List AigNode) (xs shifted shifteds out : List Edg
 product_shifted a b e xs shifted shifteds out z i many h is s made = spells_is e out 16 _ _ made (λ bits.
     ap (moved_word ways.Left (value_of bits e z) 1) (ap (number bits e) is ∙ (number-kept bits b e shifted h s.stand ∙ s.value bits))
     ∙ moved_twice ways.Left (value_of bits e z) i 1 (number bits a xs) (word-lt bits a xs many))
+
+-- the width of a word by that of another
+pub spells_wide : (ns : List AigNode) (es : List Edge) (width : ℕ) (f : ℕ → List Bool → ℕ) → width ≡ 16 → Spells ns es width (f width) → Spells ns es 16 (f 16)
+spells_wide ns es width f is s = subst (λ (k : ℕ). Spells ns es k (f k)) is s
+
+-- the highest bit tells whether a word is below 32768
+pub top_test : (bits : List Bool) (ns : List AigNode) (xs : List Edge) (d : Edge) → length xs ≡ 16 → nat_lt (number bits ns xs) 32768 ≡ not (value_of bits ns (get_or xs 15 d))
+top_test bits ns xs d many =
+    let whole : number bits ns xs ≡ number bits ns (take 15 xs) + weight (value_of bits ns (get_or xs 15 d)) 15 = ap (number bits ns) (sym (take_all 16 xs (omega (arith, many)))) ∙ number-more bits ns xs 15 d (omega (arith, many)) in
+    go (number bits ns xs) (number bits ns (take 15 xs)) (value_of bits ns (get_or xs 15 d)) whole (number-front bits ns xs 15 (omega (arith, many)))
+  where
+    go : (x t : ℕ) (b : Bool) → x ≡ t + weight b 15 → t < 2 ^ 15 → nat_lt x 32768 ≡ not b
+    go x t true e h = let over : 32768 ≤ x = omega (arith, e) in grind (arith, over)
+    go x t false e h = let less : x < 32768 = omega (arith, e, h) in grind (arith, less)
+
+pub other_side : {A : Type 0} (b : Bool) (m n : A) → (if not b then m else n) ≡ (if b then n else m)
+other_side true m n = refl
+other_side false m n = refl

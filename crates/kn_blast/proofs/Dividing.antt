@@ -194,3 +194,13 @@ divides_more a b e xs ys quotient rest next out seen u reaches k g h sx sy many 
       ∙ ap (λ (j : ℕ). (if nat_lt (one_if b0 + 2 * number bits b rest) j then one_if b0 + 2 * number bits b rest else one_if b0 + 2 * number bits b rest - j) % 65536) y) in
       rw (more, q, l) (parts_more n (number bits a ys) (number bits b quotient) (number bits b rest) k b0 (so_far.parts bits) small);
 }
+
+pub divided_quotient : (a now : List AigNode) (xs ys quotient rest : List Edge) (k : ℕ) → k ≡ 16 → Divides a now xs ys quotient rest k → Spells now quotient 16 (λ bits. if nat_eq (number bits a ys) 0 then 65535 else number bits a xs / number bits a ys)
+divided_quotient a now xs ys quotient rest k last d =
+    let e : Divides a now xs ys quotient rest 16 = subst (Divides a now xs ys quotient rest) last d in
+    record { stand = e.stand; many = e.many; value = λ bits. quotient_is (number bits a xs) (number bits a ys) (number bits now quotient) (number bits now rest) (e.parts bits) }
+
+pub divided_rest : (a now : List AigNode) (xs ys quotient rest : List Edge) (k : ℕ) → k ≡ 16 → Divides a now xs ys quotient rest k → Spells now rest 16 (λ bits. if nat_eq (number bits a ys) 0 then number bits a xs else number bits a xs % number bits a ys)
+divided_rest a now xs ys quotient rest k last d =
+    let e : Divides a now xs ys quotient rest 16 = subst (Divides a now xs ys quotient rest) last d in
+    record { stand = e.rest_stand; many = e.rest_many; value = λ bits. rest_is (number bits a xs) (number bits a ys) (number bits now quotient) (number bits now rest) (e.parts bits) }
