@@ -2,14 +2,15 @@
 use Rattle.std.proofs.Common.{◌≡◌, ℕ, zero, suc, ◌+◌, ◌-◌, ◌*◌, ◌/◌, ◌%◌, ◌^◌, ◌<◌, ◌≤◌, Bool, true, false, not, List, [], ◌∷◌, ◌++◌, length, take, get_or, replicate, refl, ap, sym, subst, ◌∙◌, arith, length-append}
 use Rattle.std.specs.Prelude.{nat_eq, nat_lt, if◌then◌else◌}
 use Rattle.std.proofs.Math.Nat.{pow-suc}
+use Rattle.std.proofs.lemmas.Nat.{mod-pow-add}
 use Rattle.std.proofs.lemmas.List.{take_all, length-take-le}
 use Rattle.kn_word.specs.Words.{one_if, one_of, by_digits, raised}
 use Rattle.kn_aig.specs.declared.gates.Edge.{Edge}
 use Rattle.kn_aig.specs.declared.gates.AigNode.{AigNode}
 use Rattle.kn_aig.specs.Circuits.{value_of, Stands}
 use Rattle.kn_blast.specs.Spelling.{number, weight, AllStand, Grows, Spells, Has, Carries}
-use Rattle.kn_blast.proofs.Growing.{edge_kept, turned_value, turned_stands}
-use Rattle.kn_blast.proofs.Numbers.{number-more, number-push, number-lt, number-front, number-kept, more_kept, spells_is, spells_kept, AllStand-at, AllStand-first, AllStand-push, double}
+use Rattle.kn_blast.proofs.Growing.{turned_value, turned_stands}
+use Rattle.kn_blast.proofs.Numbers.{number-more, number-push, number-lt, number-front, number-kept, more_kept, spells_is, AllStand-at, AllStand-first, AllStand-push}
 use Rattle.kn_blast.specs.declared.shifts.Way.TheVariants as ways
 use Rattle.kn_blast.specs.Shifting.{moved_word}
 use Rattle.kn_blast.proofs.Moving.{AllStand-take, AllStand-replicate, moved_twice}
@@ -148,3 +149,17 @@ top_test bits ns xs d many =
 pub other_side : {A : Type 0} (b : Bool) (m n : A) → (if not b then m else n) ≡ (if b then n else m)
 other_side true m n = refl
 other_side false m n = refl
+
+-- the lowest bits of a word, and one bit more
+pub constant_more : (w i : ℕ) (b : Bool) → b ≡ nat_eq (w / 2 ^ i % 2) 1 → w % 2 ^ i + weight b i ≡ w % 2 ^ (i + 1)
+constant_more w i b is =
+    let split : w % 2 ^ (1 + i) ≡ (w / 2 ^ i % 2 ^ 1) * 2 ^ i + w % 2 ^ i = mod-pow-add w 1 i in
+    let next : w % 2 ^ (i + 1) ≡ w % 2 ^ (1 + i) = ap (λ (k : ℕ). w % 2 ^ k) (omega arith) in
+    go b (w / 2 ^ i % 2) (omega arith) is (next ∙ split)
+  where
+    go : (b : Bool) (d : ℕ) → d < 2 → b ≡ nat_eq d 1 → w % 2 ^ (i + 1) ≡ d * 2 ^ i + w % 2 ^ i → w % 2 ^ i + weight b i ≡ w % 2 ^ (i + 1)
+    go true d h e f = let one : d ≡ 1 = grind (arith, e) in let s : d * 2 ^ i ≡ 1 * 2 ^ i = ap (λ (k : ℕ). k * 2 ^ i) one in omega (arith, f, s)
+    go false d h e f = let none : d ≡ 0 = grind (arith, e, h) in let s : d * 2 ^ i ≡ 0 * 2 ^ i = ap (λ (k : ℕ). k * 2 ^ i) none in omega (arith, f, s)
+
+pub chosen_is : (c x y : ℕ) → (if not (nat_eq c 0) then x else y) ≡ (if nat_eq c 0 then y else x)
+chosen_is c x y = other_side (nat_eq c 0) x y

@@ -1,9 +1,9 @@
 -- What happens to numbers where one more edge comes to each word.
-use Rattle.std.proofs.Common.{◌≡◌, ℕ, zero, suc, ◌+◌, ◌-◌, ◌*◌, ◌/◌, ◌%◌, ◌^◌, ◌<◌, ◌≤◌, Bool, true, false, not, ◌&&◌, refl, ap, sym, subst, ◌∙◌, arith}
+use Rattle.std.proofs.Common.{◌≡◌, ℕ, zero, suc, ◌+◌, ◌*◌, ◌/◌, ◌%◌, ◌^◌, ◌<◌, Bool, true, false, not, ◌&&◌, refl, ap, ◌∙◌, arith}
 use Rattle.std.specs.Prelude.{◌||◌, nat_eq, if◌then◌else◌}
 use Rattle.std.proofs.Math.Nat.{pow-suc}
 use Rattle.std.proofs.lemmas.Nat.{pow_pos}
-use Rattle.kn_word.specs.Words.{one_if, one_of, by_digits}
+use Rattle.kn_word.specs.Words.{one_if, by_digits}
 use Rattle.kn_aig.specs.Circuits.{differ}
 use Rattle.kn_blast.specs.Spelling.{weight}
 use Rattle.kn_blast.proofs.Numbers.{double, weight-suc}

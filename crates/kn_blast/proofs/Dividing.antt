@@ -1,17 +1,16 @@
 -- Division by subtracting steps.
-use Rattle.std.proofs.Common.{◌≡◌, ℕ, zero, suc, ◌+◌, ◌-◌, ◌*◌, ◌/◌, ◌%◌, ◌^◌, ◌<◌, ◌≤◌, Bool, true, false, not, List, [], ◌∷◌, ◌++◌, length, take, drop, get_or, refl, ap, sym, subst, ◌∙◌, arith, length-append}
+use Rattle.std.proofs.Common.{◌≡◌, ℕ, zero, suc, ◌+◌, ◌-◌, ◌*◌, ◌/◌, ◌%◌, ◌^◌, ◌<◌, ◌≤◌, Bool, true, false, not, List, [], ◌∷◌, ◌++◌, length, take, drop, get_or, refl, ap, sym, subst, ◌∙◌, arith}
 use Rattle.std.specs.Prelude.{nat_eq, nat_lt, if◌then◌else◌}
 use Rattle.std.proofs.Math.Seq.{drop-cons}
 use Rattle.std.proofs.lemmas.Nat.{div-mul-add, mod-mul-add}
-use Rattle.std.proofs.lemmas.List.{take_all, length-take-le}
+use Rattle.std.proofs.lemmas.List.{take_all}
 use Rattle.kn_word.specs.Words.{one_if}
 use Rattle.kn_aig.specs.declared.gates.Edge.{Edge}
 use Rattle.kn_aig.specs.declared.gates.AigNode.{AigNode}
-use Rattle.kn_aig.specs.Circuits.{value_of, Stands}
+use Rattle.kn_aig.specs.Circuits.{value_of}
 use Rattle.kn_blast.specs.Spelling.{number, weight, AllStand, Grows, Spells, Has, Carries}
-use Rattle.kn_blast.proofs.Numbers.{number-more, number-push, number-front, number-kept, AllStand-first, AllStand-kept, AllStand-none, double, number-lt, has_kept, AllStand-at, one_if-lt}
+use Rattle.kn_blast.proofs.Numbers.{number-more, number-push, number-front, number-kept, AllStand-first, AllStand-kept, double, number-lt, has_kept, AllStand-at, one_if-lt}
 use Rattle.kn_blast.proofs.Growing.{edge_kept}
-use Rattle.kn_blast.proofs.Moving.{AllStand-take}
 use Rattle.kn_blast.proofs.Arithmetic.{word-lt}
 
 -- where something is borrowed of 17 bits, the divisor is not reached

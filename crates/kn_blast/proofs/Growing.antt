@@ -1,6 +1,6 @@
 -- Circuits that became longer, step by step.
-use Rattle.std.proofs.Common.{◌≡◌, ℕ, zero, suc, ◌+◌, ◌<◌, Bool, true, false, not, ◌&&◌, List, [], ◌∷◌, ◌++◌, length, refl, ap, sym, subst, ◌∙◌, arith, Some}
-use Rattle.std.specs.Prelude.{slice_get, ◌||◌, min, max, Result, Ok, Err, IfOk}
+use Rattle.std.proofs.Common.{◌≡◌, ℕ, ◌<◌, Bool, true, false, not, ◌&&◌, List, length, refl, ap, sym, subst, ◌∙◌, arith}
+use Rattle.std.specs.Prelude.{◌||◌, min, max, Result, Ok, Err, IfOk}
 use Rattle.kn_word.specs.Words.{one_if, one_of}
 use Rattle.kn_built.specs.Built.{Extends}
 use Rattle.kn_built.proofs.BuiltLaws.{extends-same, extends-twice, length-extends}
@@ -9,7 +9,7 @@ use Rattle.kn_aig.specs.declared.gates.AigNode.{AigNode}
 use Rattle.kn_aig.specs.Circuits.{flip, differ, value_of, inputs_of, Stands}
 use Rattle.kn_aig.proofs.Longer.{value_of-extends}
 use Rattle.kn_aig.proofs.Chains.{longer as edge_longer}
-use Rattle.kn_blast.specs.Spelling.{number, AllStand, Grows, Spells, Has}
+use Rattle.kn_blast.specs.Spelling.{Grows, Has}
 
 pub grows_same : (ns : List AigNode) → Grows ns ns
 grows_same ns = record { extends = extends-same ns; inputs = refl }

@@ -1,7 +1,7 @@
 -- Words that are moved place by place.
 use Rattle.std.proofs.Common.{◌≡◌, ℕ, zero, suc, ◌+◌, ◌-◌, ◌*◌, ◌/◌, ◌%◌, ◌^◌, ◌<◌, ◌≤◌, Bool, true, false, List, [], ◌∷◌, ◌++◌, length, take, drop, get_or, refl, ap, sym, subst, ◌∙◌, arith, length-append, replicate, not}
-use Rattle.std.specs.Prelude.{min, nat_lt, nat_eq, if◌then◌else◌}
-use Rattle.std.proofs.Math.Nat.{div-div-eq-div-mul, div-le_self, div-one}
+use Rattle.std.specs.Prelude.{min, nat_eq, if◌then◌else◌}
+use Rattle.std.proofs.Math.Nat.{div-div-eq-div-mul, div-le_self}
 use Rattle.std.proofs.lemmas.Nat.{pow-add, mul-mod_second}
 use Rattle.std.proofs.Math.Pow.{pow-lt}
 use Rattle.std.proofs.lemmas.List.{take_all, length-take-le, length-drop}
@@ -13,8 +13,8 @@ use Rattle.kn_blast.specs.Spelling.{number, weight, AllStand, Grows, Spells, Has
 use Rattle.kn_blast.specs.declared.shifts.Way.{Way}
 use Rattle.kn_blast.specs.declared.shifts.Way.TheVariants as ways
 use Rattle.kn_blast.specs.Shifting.{comes_in, moved_word}
-use Rattle.kn_blast.proofs.Numbers.{number-more, number-push, number-lt, number-front, AllStand-rest, AllStand-first, AllStand-push, spells_push, spells_first, spells_is, more_kept, one_if-lt}
-use Rattle.kn_blast.proofs.Growing.{grows_same, edge_kept}
+use Rattle.kn_blast.proofs.Numbers.{number-more, number-push, number-lt, number-front, AllStand-rest, AllStand-first, AllStand-push, spells_is, more_kept}
+use Rattle.kn_blast.proofs.Growing.{edge_kept}
 
 -- dividing twice
 div_twice : (x p q : ℕ) → x / 2 ^ p / 2 ^ q ≡ x / 2 ^ (p + q)

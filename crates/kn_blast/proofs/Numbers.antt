@@ -1,6 +1,5 @@
 -- The numbers that edges spell: one more edge, and the same edges in a longer circuit.
-use Rattle.std.proofs.Common.{◌≡◌, ℕ, zero, suc, ◌+◌, ◌-◌, ◌*◌, ◌^◌, ◌<◌, ◌≤◌, Bool, true, false, not, ◌&&◌, List, [], ◌∷◌, ◌++◌, length, take, get_or, refl, ap, sym, subst, ◌∙◌, arith, Some, length-append, inl, inr}
-use Rattle.std.specs.Prelude.{slice_get, ◌||◌, nat_eq, if◌then◌else◌}
+use Rattle.std.proofs.Common.{◌≡◌, ℕ, zero, suc, ◌+◌, ◌*◌, ◌^◌, ◌<◌, ◌≤◌, Bool, true, false, List, [], ◌∷◌, ◌++◌, length, take, get_or, refl, ap, sym, subst, ◌∙◌, arith, length-append}
 use Rattle.std.proofs.Math.Nat.{pow-suc}
 use Rattle.std.proofs.lemmas.List.{take_more, length-take-le}
 use Rattle.std.proofs.lemmas.Option.{slice_get-get_or, slice_get_within}
@@ -8,7 +7,7 @@ use Rattle.kn_word.specs.Words.{one_if}
 use Rattle.kn_aig.specs.declared.gates.Edge.{Edge}
 use Rattle.kn_aig.specs.declared.gates.AigNode.{AigNode}
 use Rattle.kn_aig.specs.declared.gates.AigNode.TheVariants as nodes
-use Rattle.kn_aig.specs.Circuits.{flip, differ, value_of, values_of, inputs_of, Stands, IsCircuit}
+use Rattle.kn_aig.specs.Circuits.{flip, value_of, Stands, IsCircuit}
 use Rattle.kn_aig.proofs.Ands.{constant_value}
 use Rattle.kn_blast.specs.Spelling.{number, weight, AllStand, Grows, Spells, Has, Carries}
 use Rattle.kn_blast.proofs.Growing.{edge_kept, stands_kept}

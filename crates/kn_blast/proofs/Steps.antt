@@ -1,14 +1,13 @@
 -- One more bit of each word that is made bit by bit.
-use Rattle.std.proofs.Common.{◌≡◌, ℕ, zero, suc, ◌+◌, ◌-◌, ◌*◌, ◌^◌, ◌<◌, ◌≤◌, Bool, true, false, not, ◌&&◌, List, [], ◌∷◌, ◌++◌, length, take, get_or, refl, ap, sym, subst, ◌∙◌, arith, length-append}
+use Rattle.std.proofs.Common.{◌≡◌, ℕ, suc, ◌+◌, ◌-◌, ◌*◌, ◌^◌, ◌<◌, Bool, true, not, ◌&&◌, List, [], ◌∷◌, ◌++◌, length, take, get_or, ap, sym, subst, ◌∙◌, arith, length-append}
 use Rattle.std.specs.Prelude.{◌||◌, nat_eq, if◌then◌else◌}
-use Rattle.std.proofs.lemmas.List.{take_all}
 use Rattle.kn_word.specs.Words.{one_if, by_digits}
 use Rattle.kn_aig.specs.declared.gates.Edge.{Edge}
 use Rattle.kn_aig.specs.declared.gates.AigNode.{AigNode}
 use Rattle.kn_aig.specs.Circuits.{differ, value_of, Stands}
 use Rattle.kn_blast.specs.Spelling.{number, weight, AllStand, Grows, Spells, Has, Carries}
-use Rattle.kn_blast.proofs.Growing.{edge_kept, stands_kept, turned_value, turned_stands}
-use Rattle.kn_blast.proofs.Numbers.{number-push, number-more, number-front, number-kept, AllStand-at, AllStand-none, AllStand-kept, AllStand-push, weight-zero, spells_push, spells_is, more_kept, has_is}
+use Rattle.kn_blast.proofs.Growing.{edge_kept, turned_value}
+use Rattle.kn_blast.proofs.Numbers.{number-push, number-more, number-front, number-kept, AllStand-none, AllStand-kept, AllStand-push, weight-zero, spells_push, more_kept, has_is}
 use Rattle.kn_blast.proofs.Digits.{by_digits-more, weight-digit, sum-more, choice-more, some-more, complement-more}
 
 module _ (a b d : List AigNode) (xs ys word : List Edge) (i : ℕ) (u v : Edge) (to_b : Grows a b) (to_d : Grows b d) (sx : AllStand a xs) (sy : AllStand a ys) (same : length ys ≡ length xs) (h : i < length xs) where

@@ -1,5 +1,5 @@
 -- The numbers that edges of a circuit spell, by the inputs.
-use Rattle.std.specs.Prelude.{◌≡◌, ℕ, ◌+◌, ◌*◌, ◌^◌, ◌<◌, Bool, if◌then◌else◌, List, [], ◌∷◌, length, slice_get, Some, min, max}
+use Rattle.std.specs.Prelude.{◌≡◌, ℕ, ◌+◌, ◌*◌, ◌^◌, Bool, if◌then◌else◌, List, [], ◌∷◌, length, slice_get, Some, min, max}
 use Rattle.kn_word.specs.Words.{one_if, one_of}
 use Rattle.kn_aig.specs.declared.gates.Edge.{Edge}
 use Rattle.kn_aig.specs.declared.gates.AigNode.{AigNode}

@@ -4,6 +4,7 @@
 mod arith;
 mod division;
 mod gates;
+mod nodes;
 mod operators;
 mod shifts;
 mod words;

@@ -1,5 +1,5 @@
 -- Where something is borrowed, the first is below the second.
-use Rattle.std.proofs.Common.{◌≡◌, ◌∙◌, ◌+◌, ◌-◌, ◌^◌, ◌<◌, ap, sym, not, List, Bool, ℕ, length}
+use Rattle.std.proofs.Common.{◌≡◌, ◌∙◌, ◌+◌, ◌-◌, ◌^◌, ap, sym, List, Bool, ℕ}
 use Rattle.std.specs.Prelude.{nat_lt}
 use Rattle.kn_word.specs.Words.{one_if}
 use Rattle.kn_aig.specs.Circuits.{value_of}

@@ -1,5 +1,5 @@
 -- No digit differs.
-use Rattle.std.proofs.Common.{◌≡◌, ◌∙◌, ◌^◌, ◌<◌, ap, subst, not, List, Bool, ℕ, length}
+use Rattle.std.proofs.Common.{◌≡◌, ◌∙◌, ap, not, List, Bool, ℕ}
 use Rattle.std.specs.Prelude.{nat_eq}
 use Rattle.kn_word.specs.Words.{one_if, one_of, by_digits}
 use Rattle.kn_aig.specs.Circuits.{value_of}

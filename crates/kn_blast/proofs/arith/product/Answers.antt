@@ -1,7 +1,6 @@
 -- One more bit.
-use Rattle.std.proofs.Common.{◌≡◌, ◌∙◌, ◌*◌, ◌%◌, ◌<◌, ap, subst, sym, refl, length, arith, false, get_or, List, Bool, ℕ, take, replicate}
-use Rattle.kn_aig.specs.declared.gates.Edge.{Edge}
-use Rattle.kn_blast.specs.Spelling.{AllStand, Has, Spells, number}
+use Rattle.std.proofs.Common.{◌∙◌, ◌<◌, ap, subst, sym, refl, length, arith, false, get_or, replicate}
+use Rattle.kn_blast.specs.Spelling.{AllStand, Has}
 use Rattle.kn_blast.proofs.Growing.{grows_same, grows_twice, longer}
 use Rattle.kn_blast.proofs.Numbers.{AllStand-at, has_kept, spells_items}
 use Rattle.kn_blast.proofs.Moving.{spells_still}

@@ -1,5 +1,5 @@
 -- One more step, and the end.
-use Rattle.std.proofs.Common.{◌≡◌, arith}
+use Rattle.std.proofs.Common.{arith}
 use Rattle.kn_blast.proofs.Growing.{grows_twice}
 use Rattle.kn_blast.proofs.Dividing.{divides_more, divided_quotient, divided_rest}
 use Rattle.kn_blast.proofs.division.divided.Goals as goal

@@ -1,5 +1,5 @@
 -- The difference tells whether the divisor is reached.
-use Rattle.std.proofs.Common.{◌≡◌, ◌∙◌, ap, sym, subst, arith, length, take, ◌∷◌, List}
+use Rattle.std.proofs.Common.{◌≡◌, ◌∙◌, ap, sym, subst, arith, length, take, List}
 use Rattle.std.proofs.lemmas.List.{length-take-le}
 use Rattle.kn_aig.specs.declared.gates.Edge.{Edge}
 use Rattle.kn_blast.specs.Spelling.{AllStand}

@@ -1,9 +1,7 @@
 -- Values as digits.
-use Rattle.std.proofs.Common.{◌≡◌, ◌∙◌, ap, Bool, List}
+use Rattle.std.proofs.Common.{◌∙◌, ap}
 use Rattle.kn_word.specs.Words.{one_if}
-use Rattle.kn_aig.specs.declared.gates.Edge.{Edge}
-use Rattle.kn_aig.specs.Circuits.{value_of}
-use Rattle.kn_blast.proofs.Growing.{if_each, and_digit, or_digit, xor_digit}
+use Rattle.kn_blast.proofs.Growing.{if_each, and_digit, or_digit}
 use Rattle.kn_blast.proofs.gates.edge_of_gate.Goals as goal
 
 pub returns-in-And-clause-digit : goal.returns-in-And-clause-digit

@@ -1,5 +1,5 @@
 -- The order of the raised words.
-use Rattle.std.proofs.Common.{ap, sym, subst, ◌∙◌, ◌≡◌, length, List, Bool, ℕ}
+use Rattle.std.proofs.Common.{ap, sym, subst, ◌∙◌, ◌≡◌, length, ℕ}
 use Rattle.std.specs.Prelude.{nat_lt}
 use Rattle.kn_word.specs.Words.{one_if, raised}
 use Rattle.kn_blast.specs.Spelling.{number, AllStand}

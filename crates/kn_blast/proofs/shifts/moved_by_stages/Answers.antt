@@ -1,6 +1,6 @@
 -- One stage more.
-use Rattle.std.proofs.Common.{◌≡◌, ◌<◌, ◌^◌, refl, ap, length, arith, false, get_or}
-use Rattle.kn_aig.specs.Circuits.{Stands, value_of}
+use Rattle.std.proofs.Common.{◌<◌, length, arith, false, get_or}
+use Rattle.kn_aig.specs.Circuits.{value_of}
 use Rattle.kn_blast.proofs.Growing.{grows_same, grows_twice, longer}
 use Rattle.kn_blast.proofs.Numbers.{AllStand-at}
 use Rattle.kn_blast.proofs.Moving.{spells_still, stage_more, choice_seen, power_is}

@@ -1,5 +1,5 @@
 -- One place.
-use Rattle.std.proofs.Common.{ap, arith, ◌≡◌, ◌∙◌}
+use Rattle.std.proofs.Common.{ap, arith}
 use Rattle.kn_aig.specs.Circuits.{value_of}
 use Rattle.kn_blast.specs.Shifting.{comes_in}
 use Rattle.kn_blast.proofs.Growing.{if_each}

@@ -1,9 +1,8 @@
 -- The stages, or what comes in alone.
-use Rattle.std.proofs.Common.{◌≡◌, ◌∙◌, ◌+◌, ◌-◌, ap, sym, subst, not, length, drop, take, arith, refl, List, Bool, ℕ}
+use Rattle.std.proofs.Common.{◌≡◌, ◌∙◌, ◌-◌, ap, sym, subst, not, length, drop, take, arith, refl, List, Bool, ℕ}
 use Rattle.std.specs.Prelude.{nat_eq}
-use Rattle.kn_aig.specs.declared.gates.Edge.{Edge}
 use Rattle.kn_aig.specs.Circuits.{value_of}
-use Rattle.kn_blast.specs.Spelling.{AllStand, Grows, Spells, number}
+use Rattle.kn_blast.specs.Spelling.{AllStand, Grows, number}
 use Rattle.kn_blast.proofs.Growing.{if_each, grows_twice}
 use Rattle.kn_blast.proofs.Numbers.{AllStand-kept, spells_kept, number-kept}
 use Rattle.kn_blast.proofs.Moving.{tail_is, AllStand-drop, shift_whole, choice_seen}

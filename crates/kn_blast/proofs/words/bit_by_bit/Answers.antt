@@ -1,7 +1,5 @@
 -- One more bit.
-use Rattle.std.proofs.Common.{sym, subst, List, ◌+◌}
-use Rattle.kn_aig.specs.declared.gates.Edge.{Edge}
-use Rattle.kn_blast.specs.Spelling.{digit, Spells}
+use Rattle.kn_blast.specs.Spelling.{digit}
 use Rattle.kn_blast.proofs.Growing.{grows_twice}
 use Rattle.kn_blast.proofs.Numbers.{spells_items}
 use Rattle.kn_blast.proofs.Steps.{gate_more}

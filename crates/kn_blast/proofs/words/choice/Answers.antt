@@ -1,7 +1,5 @@
 -- One more bit.
-use Rattle.std.proofs.Common.{sym, subst, List, ◌+◌}
-use Rattle.kn_aig.specs.declared.gates.Edge.{Edge}
-use Rattle.kn_blast.specs.Spelling.{Grows, Spells}
+use Rattle.kn_blast.specs.Spelling.{Grows}
 use Rattle.kn_blast.proofs.Growing.{grows_twice, grows_made}
 use Rattle.kn_blast.proofs.Numbers.{spells_items}
 use Rattle.kn_blast.proofs.Steps.{choice_more}

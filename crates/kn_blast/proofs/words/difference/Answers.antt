@@ -1,7 +1,7 @@
 -- The sum with the complement and 1.
-use Rattle.std.proofs.Common.{sym, ap, subst, ◌≡◌, ◌∙◌, ◌+◌, ◌^◌, ℕ, List, Bool, length, true}
+use Rattle.std.proofs.Common.{sym, ap, subst, ◌≡◌, ◌∙◌, ◌+◌, ◌^◌, List, Bool, length}
 use Rattle.kn_aig.specs.declared.gates.Edge.{Edge}
-use Rattle.kn_blast.specs.Spelling.{AllStand, number, Has}
+use Rattle.kn_blast.specs.Spelling.{AllStand, number}
 use Rattle.kn_blast.proofs.Growing.{if_each}
 use Rattle.kn_blast.proofs.Steps.{borrows}
 use Rattle.kn_blast.proofs.words.difference.Goals as goal

@@ -1,8 +1,4 @@
 -- One more bit.
-use Rattle.std.proofs.Common.{◌≡◌, sym, subst, List, ◌+◌, ◌<◌, length, take, ap, ◌∙◌, refl, arith}
-use Rattle.std.proofs.lemmas.List.{take_all}
-use Rattle.kn_aig.specs.declared.gates.Edge.{Edge}
-use Rattle.kn_blast.specs.Spelling.{Carries}
 use Rattle.kn_blast.proofs.Growing.{grows_twice, grows_same}
 use Rattle.kn_blast.proofs.Numbers.{carries_items}
 use Rattle.kn_blast.proofs.Steps.{sum_more, sum_begun}
