@@ -2,11 +2,17 @@
 #![tactic(auto)]
 
 mod arith;
+mod circuit;
 mod division;
 mod gates;
+mod inputs;
+mod marks;
 mod nodes;
+mod opening;
 mod operators;
 mod shifts;
 mod words;
 
+pub use circuit::{Word, blast};
+pub use inputs::{InputBits, InputMap};
 pub use std::alloc::AllocError as Memory;
