@@ -10,3 +10,4 @@ pub mod Marking
 pub mod Reading
 pub mod Laying
 pub mod Tabling
+pub mod Opened

@@ -142,8 +142,8 @@ pub all_wide : (ns : List Node) (marks : List Bool) (a : Valuation) → AreNodes
 all_wide ns marks a are closed wide place within mark n k width reads = input_wide ns marks a are closed wide (suc place) place (omega arith) within mark n k width reads
 
 -- the width of an input is one with which a root reads it
-pub width_read : (ns : List Node) (roots : List Ref) (marks : List Bool) (a : Valuation) → AreNodes ns → length marks ≤ length ns → ReadOnlyRoots ns roots marks → AreRead ns marks a → (n k : ℕ) → 0 < listed a n k → RootsRead ns roots n k (listed a n k)
-width_read ns roots marks a are few only read n k h =
+pub width_read : (ns : List Node) (roots : List Ref) (marks : List Bool) (a : Valuation) → AreNodes ns → ReadOnlyRoots ns roots marks → AreRead ns marks a → (n k : ℕ) → 0 < listed a n k → RootsRead ns roots n k (listed a n k)
+width_read ns roots marks a are only read n k h =
     let found = read n k h in
     let place : ℕ = found.0 in
     let is : slice_get ns place ≡ Some (nodes.Input n k (listed a n k)) = found.2 in

@@ -18,7 +18,7 @@ use Rattle.kn_blast.specs.Spelling.{number, AllStand, Grows, Spells}
 use Rattle.kn_blast.specs.Inputs.{width_of, bits_of, word_before, given_by, IsGivenBy, Covers, IsOpenIn}
 use Rattle.kn_blast.specs.Reached.{IsMarked, AreMarkedFrom, IsOperand}
 use Rattle.kn_blast.specs.Tables.{IsWordOf, AreWords, HasOperandWords, AreWordsOf}
-use Rattle.kn_blast.proofs.Numbers.{spells_is, spells_kept, AllStand-kept}
+use Rattle.kn_blast.proofs.Numbers.{spells_is, spells_items, spells_kept, AllStand-kept}
 use Rattle.kn_blast.proofs.Laying.{word_before-cut, begins_longer}
 
 abbrev pub row : List (List Edge) → ℕ → List Edge → List Edge
@@ -102,3 +102,21 @@ open_longer old new entries g is = begins_longer old new g.extends.0 (bits_of en
 -- a word by the inputs that the term reads
 pub word_given : (law : WordsByInputs) (bits : List Bool) (entries : List InputBits) (a : Valuation) (t : Term) (w : ℕ) → IsGivenBy bits entries a → w ≡ ev (given_by bits entries) t → w ≡ ev a t
 word_given law bits entries a t w given is = is ∙ law t (given_by bits entries) a (λ n k width r. ap (λ (v : ℕ). v % 2 ^ width) (sym (given n k)))
+
+-- the words of the operands are in the table
+pub operands_ready : (ns : List AigNode) (entries : List InputBits) (terms : List Node) (marks : List Bool) (table rows : List (List Edge)) (place : ℕ) → rows ≡ table → length table ≡ place → AreMarkedFrom terms marks 0 → AreWordsOf ns entries terms marks table
+    → IsMarked marks place → (n : Node) → slice_get terms (length rows) ≡ Some n → HasOperandWords ns entries terms rows n
+operands_ready ns entries terms marks table rows place same count closed are mark n is k es op e =
+    let here : length rows ≡ place = ap length same ∙ count in
+    are k es (closed place n (omega arith) mark (subst (λ (p : ℕ). slice_get terms p ≡ Some n) here is) k op) (subst (λ (t : List (List Edge)). slice_get t k ≡ Some es) same e)
+
+pub covers_there : (entries : List InputBits) (terms : List Node) (table rows : List (List Edge)) (place : ℕ) → rows ≡ table → length table ≡ place → Covers entries (term_at terms place) → Covers entries (term_at terms (length rows))
+covers_there entries terms table rows place same count covers = subst (λ (p : ℕ). Covers entries (term_at terms p)) (sym (ap length same ∙ count)) covers
+
+-- the same edges for the same term
+pub word_same : (ns : List AigNode) (entries : List InputBits) (t u : Term) (out es : List Edge) → out ≡ es → t ≡ u → IsWordOf ns entries u es → IsWordOf ns entries t out
+word_same ns entries t u out es same e is = spells_items ns out es 16 _ same (subst (λ (v : Term). IsWordOf ns entries v es) (sym e) is)
+
+pub value_there : (ns : List AigNode) (entries : List InputBits) (terms : List Node) (marks : List Bool) (table rows : List (List Edge)) (place : ℕ) (w : List Edge) → rows ≡ table → length table ≡ place
+    → (IsMarked marks place → IsWordOf ns entries (term_at terms (length rows)) w) → IsMarked marks (length table) → IsWordOf ns entries (term_at terms (length table)) w
+value_there ns entries terms marks table rows place w same count one mark = subst (λ (t : List (List Edge)). IsWordOf ns entries (term_at terms (length t)) w) same (one (subst (IsMarked marks) count mark))

@@ -17,7 +17,7 @@ use crate::nodes::{chosen, word_edges};
 use crate::operators::operate;
 use crate::words::constant;
 use kn_aig::{Aig, Edge};
-use kn_term::{Node, Ref, Terms};
+use kn_term::{Node, Ref, Terms, words_by_inputs};
 use std::alloc::{AllocError, Global};
 
 /// Sixteen edges, the lowest bit first.
@@ -41,6 +41,7 @@ pub fn blast(
     ensures value { IfOk result (λ word. (bits : List Bool) (a : Valuation) → IsGivenBy bits inputs.now a → number bits aig.new word ≡ ev a (term_at terms.now r.index)) }
     ensures grows { Grows aig.old aig.new }
 {
+    words_by_inputs();
     let needed = reached(alloc, terms, &[r])?;
     let table = words_of(alloc, terms, aig, inputs, &needed)?;
     Ok(table[r.index])

@@ -76,6 +76,7 @@ impl InputMap {
         ensures open { IfOk result (λ m. IsOpenIn m aig.new) }
         ensures grows { Extends aig.old aig.new }
     {
+        terms.order();
         let marks = reached(alloc, terms, roots)?;
         let widths = widths_read(alloc, terms, &marks)?;
         let entries = laid_out(alloc, &widths, aig)?;

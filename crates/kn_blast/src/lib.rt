@@ -16,3 +16,6 @@ mod words;
 pub use circuit::{Word, blast};
 pub use inputs::{InputBits, InputMap};
 pub use std::alloc::AllocError as Memory;
+
+#[cfg(test)]
+mod tests;
