@@ -11,3 +11,4 @@ pub mod Reading
 pub mod Laying
 pub mod Tabling
 pub mod Opened
+pub mod Kept

@@ -92,6 +92,14 @@ impl InputMap {
         words_given(*self.entries.allocator(), &self.entries, bits)
     }
 
+    /// The inputs of the network of which the circuit has bits, in order of node and index.
+    pub fn inputs(&self) -> &[InputBits]
+        ensures list { result.now ≡ self.now }
+        ensures order { AreInputBits 0 self.now }
+    {
+        self.entries.as_slice()
+    }
+
     /// The bits of an input, if it has some.
     pub(crate) fn find(&self, node: u32, index: u32) -> Option<InputBits>
         ensures { MatchOption result (width_of self.now node index ≡ 0) (λ e. (e.width ≡ width_of self.now node index) × (e.width ≤ 16) × (e.width ≤ e.lowest + 1) × (e.lowest < bits_of self.now) × ((bits : List Bool) → listed (given_by bits self.now) node index ≡ word_before bits e.lowest e.width)) }

@@ -65,6 +65,9 @@ fn agrees(alloc: Global, terms: &Terms, r: Ref, words: &[u16]) -> Result<bool, M
 {
     let mut aig = Aig::new(alloc);
     let (inputs, word) = opened(alloc, terms, r, &mut aig)?;
+    if inputs.inputs().len() != 2 {
+        return Ok(false);
+    }
     for pair in 0..256_u16 {
         let bits = bits_of_pair(pair / 16, pair % 16);
         if aig.inputs() != bits.len() || words.len() <= usize::from(pair) {
