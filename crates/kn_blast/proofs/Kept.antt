@@ -1,10 +1,9 @@
 -- What callers need to know of a map and a word of edges where their circuit became longer.
-use Rattle.std.proofs.Common.{◌≡◌, Bool, List}
+use Rattle.std.proofs.Common.{List}
 use Rattle.kn_built.specs.Built.{Extends}
-use Rattle.kn_aig.specs.declared.gates.Edge.{Edge}
 use Rattle.kn_aig.specs.declared.gates.AigNode.{AigNode}
 use Rattle.kn_blast.specs.declared.inputs.InputBits.{InputBits}
-use Rattle.kn_blast.specs.Spelling.{AllStand, Grows, number}
+use Rattle.kn_blast.specs.Spelling.{Grows}
 use Rattle.kn_blast.specs.Inputs.{bits_of, IsOpenIn}
 use Rattle.kn_blast.proofs.Numbers.{AllStand-kept, number-kept}
 use Rattle.kn_blast.proofs.Growing.{grows_same, grows_twice}

@@ -1,6 +1,6 @@
 -- Inputs laid out in a circuit: their bits, widths and words.
-use Rattle.std.proofs.Common.{◌≡◌, ℕ, zero, suc, ◌+◌, ◌-◌, ◌*◌, ◌<◌, ◌≤◌, ◌%◌, ◌^◌, Bool, true, false, cond, ◌&&◌, List, [], ◌∷◌, ◌++◌, length, take, drop, get_or, Some, refl, ap, sym, subst, ◌∙◌, arith, inl, inr, length-append}
-use Rattle.std.specs.Prelude.{◌⊎◌, None, slice_get, slice_index_or, nat_eq, nat_lt, min, if◌then◌else◌}
+use Rattle.std.proofs.Common.{◌≡◌, ℕ, zero, suc, ◌+◌, ◌-◌, ◌*◌, ◌<◌, ◌≤◌, ◌%◌, ◌^◌, Bool, true, false, cond, ◌&&◌, List, [], ◌∷◌, ◌++◌, length, drop, get_or, Some, refl, ap, sym, subst, ◌∙◌, arith, inl, inr, length-append}
+use Rattle.std.specs.Prelude.{None, slice_get, slice_index_or, nat_eq, nat_lt, min}
 use Rattle.std.specs.List.{AllByRecursion}
 use Rattle.std.proofs.lemmas.Bool.{eqb-true, eq-eqb, cases_lt}
 use Rattle.std.proofs.lemmas.Option.{slice_get-get_or, slice_get_within, get_or_from_slice_get}
@@ -11,10 +11,9 @@ use Rattle.std.proofs.lemmas.List.{append_assoc, append-nil, drop_more}
 use Rattle.kn_built.proofs.BuiltLaws.{built_at-row}
 use Rattle.kn_built.proofs.Deciding.{both_true}
 use Rattle.kn_built.proofs.Sorted.{All-each}
-use Rattle.kn_aig.specs.declared.gates.Edge.{Edge}
 use Rattle.kn_aig.specs.declared.gates.AigNode.{AigNode}
 use Rattle.kn_aig.specs.declared.gates.AigNode.TheVariants as nodes
-use Rattle.kn_aig.specs.Circuits.{flip, node_of, value_of, inputs_of, input_count, Fits, IsCircuit}
+use Rattle.kn_aig.specs.Circuits.{node_of, inputs_of, input_count, Fits, IsCircuit}
 use Rattle.kn_aig.proofs.Longer.{inputs_of-append}
 use Rattle.kn_term.specs.Terms.{Given, Valuation, listed}
 use Rattle.kn_term.specs.Valuations.{precedes, Precedes, AreEntries}
@@ -49,13 +48,18 @@ only_none (x ∷ y ∷ ns) is none = absurd (second y refl (is.1 1 y refl)) wher
 pub only_more : (old new : List AigNode) → HasOnlyInputs old → new ≡ old ++ nodes.Input (inputs_of old) ∷ [] → HasOnlyInputs new × (inputs_of new ≡ inputs_of old + 1)
 only_more old new only is =
     let count : inputs_of new ≡ inputs_of old + 1 = ap inputs_of is ∙ (inputs_of-append old (nodes.Input (inputs_of old) ∷ []) ∙ omega arith) in
-    let long : length new ≡ length old + 1 = ap length is ∙ (length-append old (nodes.Input (inputs_of old) ∷ []) ∙ omega arith) in
-    ((omega (arith, count, long, only.0), λ place h. ap (λ (ns : List AigNode). slice_get ns (1 + place)) is ∙ elim (cases_lt place (inputs_of old)) [
-      | inl before ↦ get_front old (nodes.Input (inputs_of old) ∷ []) (1 + place) (omega (arith, before, only.0)) ∙ only.1 place before
-      | inr past ↦
-          let here : place ≡ inputs_of old = omega (arith, h, past, count) in
-          get_last old (nodes.Input (inputs_of old)) (1 + place) (omega (arith, here, only.0)) ∙ ap (λ (i : ℕ). Some (nodes.Input i)) (sym here)
-    ]), count)
+    let long : length new ≡ length old + 1 = ap length is ∙ (length-append old (nodes.Input (inputs_of old) ∷ []) ∙ omega arith) in (
+      (
+        omega (arith, count, long, only.0),
+        λ place h. ap (λ (ns : List AigNode). slice_get ns (1 + place)) is ∙ elim (cases_lt place (inputs_of old)) [
+          | inl before ↦ get_front old (nodes.Input (inputs_of old) ∷ []) (1 + place) (omega (arith, before, only.0)) ∙ only.1 place before
+          | inr past ↦
+              let here : place ≡ inputs_of old = omega (arith, h, past, count) in
+              get_last old (nodes.Input (inputs_of old)) (1 + place) (omega (arith, here, only.0)) ∙ ap (λ (i : ℕ). Some (nodes.Input i)) (sym here)
+        ],
+      ),
+      count,
+    )
 
 -- fewer inputs
 pub begins_fewer : (ns : List AigNode) (few many : ℕ) → few ≤ many → BeginsWithInputs ns many → BeginsWithInputs ns few
@@ -216,9 +220,13 @@ entry_found es place n k d is h within test t width given =
     let rest = drop (place + 1) es in
     let front : drop place es ≡ e ∷ rest = drop_more es place d within in
     let own : (nat_eq e.node n && nat_eq e.index k) ≡ true = sym test ∙ t in
-    let at = entry_at es place d h within in
-    (sym (width ∙ (ap (λ (xs : List InputBits). width_of xs n k) front ∙ ap (λ (b : Bool). cond b e.width (width_of rest n k)) own)), at.0, at.1, at.2,
-    λ bits. given bits ∙ (ap (λ (xs : List InputBits). listed (given_by bits xs) n k) front ∙ ap (λ (b : Bool). cond b (word_before bits e.lowest e.width) (listed (given_by bits rest) n k)) own))
+    let at = entry_at es place d h within in (
+      sym (width ∙ (ap (λ (xs : List InputBits). width_of xs n k) front ∙ ap (λ (b : Bool). cond b e.width (width_of rest n k)) own)),
+      at.0,
+      at.1,
+      at.2,
+      λ bits. given bits ∙ (ap (λ (xs : List InputBits). listed (given_by bits xs) n k) front ∙ ap (λ (b : Bool). cond b (word_before bits e.lowest e.width) (listed (given_by bits rest) n k)) own),
+    )
 
 pub next_count : (old new : List InputBits) (e : InputBits) (before after w : ℕ) → new ≡ old ++ e ∷ [] → e.width ≡ w → bits_of old ≡ before → after ≡ before + w → bits_of new ≡ after
 next_count old new e before after w pushed width count next = ap bits_of pushed ∙ (bits_of-push old e ∙ omega (arith, width, count, next))

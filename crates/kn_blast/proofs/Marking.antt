@@ -5,8 +5,7 @@ use Rattle.std.proofs.lemmas.Bool.{eqb-true, cases_lt}
 use Rattle.std.proofs.lemmas.List.{get_or-set_same, get_or-set_other, get_or_past}
 use Rattle.std.proofs.Math.Seq.{take-append_seam}
 use Rattle.kn_term.specs.declared.node.Node.{Node}
-use Rattle.kn_term.specs.declared.node.Node.TheVariants.{Konst, Input, Apply, Ite}
-use Rattle.kn_blast.specs.Reached.{IsMarked, IsOperand, HasMarkedOperands, AreMarkedFrom}
+use Rattle.kn_blast.specs.Reached.{IsMarked, HasMarkedOperands, AreMarkedFrom}
 
 -- a mark stands
 pub marked : (marks : List Bool) (x : ℕ) → x < length marks → IsMarked (set marks x true) x

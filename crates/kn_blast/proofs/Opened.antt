@@ -1,12 +1,12 @@
 -- What was opened for roots.
-use Rattle.std.proofs.Common.{◌≡◌, ℕ, zero, suc, ◌+◌, ◌<◌, ◌≤◌, Bool, true, false, List, [], ◌∷◌, length, Some, refl, ap, sym, subst, ◌∙◌, arith, inl, inr}
-use Rattle.std.specs.Prelude.{◌⊎◌, slice_get, slice_index_or}
+use Rattle.std.proofs.Common.{◌≡◌, ℕ, zero, suc, ◌<◌, ◌≤◌, Bool, true, false, List, [], ◌∷◌, length, Some, refl, ap, sym, subst, ◌∙◌, arith, inl, inr}
+use Rattle.std.specs.Prelude.{slice_get}
 use Rattle.std.proofs.lemmas.Bool.{cases_lt}
 use Rattle.std.proofs.lemmas.List.{get_or_past}
 use Rattle.std.proofs.lemmas.Option.{slice_get_within}
 use Rattle.kn_term.specs.declared.node.Node.{Node}
 use Rattle.kn_term.specs.declared.node.Ref.{Ref}
-use Rattle.kn_term.specs.Terms.{Term, Valuation, Reads, listed}
+use Rattle.kn_term.specs.Terms.{Valuation, Reads, listed}
 use Rattle.kn_term.specs.Nodes.{term_at, AreNodes}
 use Rattle.kn_term.specs.Valuations.{AreEntries}
 use Rattle.kn_blast.specs.declared.inputs.InputBits.{InputBits}

@@ -1,5 +1,5 @@
 -- What marked places read, and the widths of the inputs there.
-use Rattle.std.proofs.Common.{◌≡◌, ℕ, zero, suc, ◌+◌, ◌<◌, ◌≤◌, Bool, true, false, cond, List, length, take, get_or, Some, refl, ap, sym, subst, ◌∙◌, arith, inl, inr}
+use Rattle.std.proofs.Common.{◌≡◌, ℕ, zero, suc, ◌+◌, ◌<◌, ◌≤◌, Bool, true, false, List, length, get_or, Some, refl, ap, sym, subst, ◌∙◌, arith, inl, inr}
 use Rattle.std.specs.Prelude.{◌⊎◌, slice_get, slice_index_or, nat_eq, if◌then◌else◌}
 use Rattle.std.proofs.lemmas.Bool.{eqb-true, eq-eqb, cases_lt}
 use Rattle.std.proofs.lemmas.List.{get_or_past}
@@ -7,10 +7,10 @@ use Rattle.std.proofs.lemmas.Option.{slice_get-get_or, slice_get_within}
 use Rattle.kn_term.specs.declared.node.Node.{Node}
 use Rattle.kn_term.specs.declared.node.Node.TheVariants as nodes
 use Rattle.kn_term.specs.declared.node.Ref.{Ref}
-use Rattle.kn_term.specs.Terms.{Term, Valuation, Reads, listed}
+use Rattle.kn_term.specs.Terms.{Valuation, Reads, listed}
 use Rattle.kn_term.specs.Nodes.{term_of, terms_of, term_at, IsNodeAt, AreNodes}
 use Rattle.kn_term.proofs.Kept.{term_at-node}
-use Rattle.kn_blast.specs.Reached.{RootsRead, IsMarked, AreRootsMarked, IsOperand, HasMarkedOperands, AreMarkedFrom, ReadOnlyRoots, IsWidened, AreWide, AreRead}
+use Rattle.kn_blast.specs.Reached.{RootsRead, IsMarked, AreRootsMarked, IsOperand, AreMarkedFrom, ReadOnlyRoots, IsWidened, AreWide, AreRead}
 
 -- what an operand reads, the node's term reads
 of_node : (ns : List Node) (n : Node) (m k width p : ℕ) → IsOperand n p → Reads m k width (term_at ns p) → Reads m k width (term_of (terms_of ns) n)
@@ -123,6 +123,7 @@ input_wide ns marks a are closed wide (suc count) place h within mark n k width 
           where
             never : true ≡ false → ⊥
             never e = cc
+
         same : (m j bits n k width : ℕ) → n ≡ m → k ≡ j → width ≡ bits → Some (nodes.Input n k width) ≡ Some (nodes.Input m j bits)
         same m j bits n k width e f g = rw (e, f, g) refl
     by_node (nodes.Apply o x y) is stands reads each = elim reads [

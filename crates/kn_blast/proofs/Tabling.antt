@@ -1,8 +1,7 @@
 -- Tables of words of edges, and the words of nodes out of those of their operands.
-use Rattle.std.proofs.Common.{◌≡◌, ℕ, zero, suc, ◌+◌, ◌<◌, ◌≤◌, ◌%◌, ◌^◌, Bool, true, false, List, [], ◌∷◌, ◌++◌, length, get_or, Some, refl, ap, sym, subst, ◌∙◌, arith, inl, inr, length-append}
-use Rattle.std.specs.Prelude.{◌⊎◌, slice_get, slice_index_or}
-use Rattle.std.proofs.lemmas.Bool.{cases_lt}
-use Rattle.std.proofs.lemmas.Option.{slice_get-get_or, slice_get_within}
+use Rattle.std.proofs.Common.{◌≡◌, ℕ, zero, suc, ◌<◌, ◌≤◌, ◌%◌, ◌^◌, Bool, List, [], ◌∷◌, ◌++◌, length, get_or, Some, refl, ap, sym, subst, ◌∙◌, arith, inl, inr}
+use Rattle.std.specs.Prelude.{◌⊎◌, slice_get}
+use Rattle.std.proofs.lemmas.Option.{slice_get-get_or}
 use Rattle.kn_word.specs.declared.Op.{Op}
 use Rattle.kn_word.specs.Words.{val}
 use Rattle.kn_aig.specs.declared.gates.Edge.{Edge}
@@ -10,9 +9,8 @@ use Rattle.kn_aig.specs.declared.gates.AigNode.{AigNode}
 use Rattle.kn_term.specs.declared.node.Node.{Node}
 use Rattle.kn_term.specs.declared.node.Node.TheVariants as nodes
 use Rattle.kn_term.specs.declared.node.Ref.{Ref}
-use Rattle.kn_term.specs.Terms.{Term, Valuation, Reads, ev, chosen_word, input_word, listed, WordsByInputs}
+use Rattle.kn_term.specs.Terms.{Term, Valuation, ev, chosen_word, input_word, listed, WordsByInputs}
 use Rattle.kn_term.specs.Nodes.{term_of, terms_of, term_at, IsNodeAt}
-use Rattle.kn_term.proofs.Kept.{term_at-node}
 use Rattle.kn_blast.specs.declared.inputs.InputBits.{InputBits}
 use Rattle.kn_blast.specs.Spelling.{number, AllStand, Grows, Spells}
 use Rattle.kn_blast.specs.Inputs.{width_of, bits_of, word_before, given_by, IsGivenBy, Covers, IsOpenIn}

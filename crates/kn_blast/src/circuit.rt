@@ -122,7 +122,13 @@ fn word_of(
         Node::Input { node, index, width } => input_edges(alloc, aig, inputs, node, index, width),
         Node::Apply(op, x, y) => operate(alloc, aig, op, &table[x.index], &table[y.index]),
         Node::Ite(c, x, y) => {
-            chosen(alloc, aig, &table[c.index], &table[x.index], &table[y.index])
+            chosen(
+                alloc,
+                aig,
+                &table[c.index],
+                &table[x.index],
+                &table[y.index],
+            )
         }
     }
 }

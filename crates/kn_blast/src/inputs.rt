@@ -48,7 +48,7 @@ impl Model for InputMap {
     ghost use Rattle.std.specs.Prelude.{List};
     ghost use Rattle.kn_blast.specs.declared.inputs.InputBits.{InputBits};
     ghost use Rattle.kn_blast.specs.Spelling.{weight};
-ghost use Rattle.kn_blast.specs.Inputs.{AreInputBits};
+    ghost use Rattle.kn_blast.specs.Inputs.{AreInputBits};
 
     ghost Value = { List InputBits };
 

@@ -15,12 +15,7 @@ use std::test::Fail;
 fn is_shared<T: Send + Sync>() {}
 
 /// The inputs that a term reads, and its circuit.
-fn opened(
-    alloc: Global,
-    terms: &Terms,
-    r: Ref,
-    aig: &mut Aig,
-) -> Result<(InputMap, Word), Memory>
+fn opened(alloc: Global, terms: &Terms, r: Ref, aig: &mut Aig) -> Result<(InputMap, Word), Memory>
     requires stands { r.index < length terms.now }
     requires none { inputs_of aig.old ≡ 0 }
     ensures stand { IfOk result (λ p. AllStand aig.new p.1) }

@@ -1,5 +1,5 @@
 -- The word of the node.
-use Rattle.std.proofs.Common.{◌≡◌, ◌∙◌, length, subst}
+use Rattle.std.proofs.Common.{◌∙◌, subst}
 use Rattle.kn_term.specs.Terms.{Term}
 use Rattle.kn_blast.specs.Inputs.{Covers}
 use Rattle.kn_blast.proofs.Tabling.{word_same}

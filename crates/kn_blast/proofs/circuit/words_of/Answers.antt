@@ -1,5 +1,5 @@
 -- One more place.
-use Rattle.std.proofs.Common.{◌≡◌, ◌∙◌, ◌+◌, ◌∷◌, ◌++◌, [], ap, length, length-append, arith}
+use Rattle.std.proofs.Common.{◌≡◌, ◌∙◌, ◌∷◌, ◌++◌, [], ap, length, length-append, arith}
 use Rattle.kn_blast.proofs.Growing.{grows_twice}
 use Rattle.kn_blast.proofs.Tabling.{operands_ready, open_longer, covers_there, words_more, values_more, value_there}
 use Rattle.kn_blast.proofs.circuit.words_of.Goals as goal

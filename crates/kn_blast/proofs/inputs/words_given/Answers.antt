@@ -1,6 +1,5 @@
 -- One entry earlier.
-use Rattle.std.proofs.Common.{◌≡◌, ◌+◌, ◌-◌, ◌<◌, ◌≤◌, length, arith}
-use Rattle.kn_blast.specs.Inputs.{bits_of}
+use Rattle.std.proofs.Common.{◌-◌, arith}
 use Rattle.kn_blast.proofs.Laying.{blank, entry_at}
 use Rattle.kn_blast.proofs.inputs.words_given.Goals as goal
 

@@ -1,5 +1,5 @@
 -- One place earlier.
-use Rattle.std.proofs.Common.{◌≡◌, ◌+◌, ◌-◌, ◌≤◌, length, refl, ◌∙◌, arith, rules}
+use Rattle.std.proofs.Common.{◌≡◌, ◌+◌, ◌-◌, ◌≤◌, length, refl, ◌∙◌, arith}
 use Rattle.kn_blast.proofs.Marking.{none_from, one_earlier}
 use Rattle.kn_blast.proofs.marks.mark_operands_below.Goals as goal
 

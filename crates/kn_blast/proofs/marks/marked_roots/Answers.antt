@@ -1,8 +1,7 @@
 -- One more root.
-use Rattle.std.proofs.Common.{◌≡◌, ◌+◌, ◌<◌, ◌≤◌, Some, length, arith}
+use Rattle.std.proofs.Common.{◌≡◌, ◌+◌, ◌<◌, Some, length, arith}
 use Rattle.std.specs.Prelude.{slice_get, max}
 use Rattle.std.proofs.lemmas.Option.{slice_get-get_or}
-use Rattle.kn_term.specs.declared.node.Ref.{Ref}
 use Rattle.kn_blast.proofs.Reading.{none, root_at, root_marked, root_read}
 use Rattle.kn_blast.proofs.marks.marked_roots.Goals as goal
 

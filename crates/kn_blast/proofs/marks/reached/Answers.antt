@@ -1,6 +1,6 @@
 -- What was written into the marks.
 use Rattle.std.proofs.Common.{◌≡◌, ◌++◌, ◌∙◌, Bool, List, length, take, drop, sym, subst}
-use Rattle.kn_blast.specs.Reached.{AreRootsMarked, AreMarkedFrom, ReadOnlyRoots}
+use Rattle.kn_blast.specs.Reached.{AreMarkedFrom, ReadOnlyRoots}
 use Rattle.kn_blast.proofs.Marking.{written_back}
 use Rattle.kn_blast.proofs.marks.reached.Goals as goal
 

@@ -1,9 +1,8 @@
 -- One more input.
-use Rattle.std.proofs.Common.{◌≡◌, ◌∙◌, ◌+◌, List, sym, subst, arith, ap, [], ◌∷◌, ◌++◌}
+use Rattle.std.proofs.Common.{sym, subst, arith, [], ◌∷◌}
 use Rattle.kn_built.specs.Built.{Extends}
 use Rattle.kn_built.proofs.BuiltLaws.{extends-twice}
 use Rattle.kn_aig.specs.Circuits.{inputs_of}
-use Rattle.kn_aig.specs.declared.gates.AigNode.{AigNode}
 use Rattle.kn_aig.specs.declared.gates.AigNode.TheVariants as nodes
 use Rattle.kn_blast.specs.Inputs.{HasOnlyInputs}
 use Rattle.kn_blast.proofs.Laying.{only_more}

@@ -1,5 +1,5 @@
 -- One more entry.
-use Rattle.std.proofs.Common.{◌≡◌, ◌∙◌, ◌+◌, ◌-◌, ◌<◌, ◌≤◌, ◌++◌, ◌∷◌, [], Some, List, ap, sym, length, drop, arith}
+use Rattle.std.proofs.Common.{◌≡◌, ◌∙◌, ◌+◌, ◌<◌, ◌++◌, ◌∷◌, [], Some, List, ap, sym, length, drop, arith}
 use Rattle.std.specs.Prelude.{slice_get}
 use Rattle.std.proofs.lemmas.Option.{slice_get_within}
 use Rattle.kn_built.proofs.BuiltLaws.{extends-same, extends-twice}
@@ -7,7 +7,7 @@ use Rattle.kn_aig.specs.Circuits.{inputs_of}
 use Rattle.kn_term.specs.Terms.{Given}
 use Rattle.kn_blast.specs.Inputs.{bits_of, laid_out}
 use Rattle.kn_blast.specs.declared.inputs.InputBits.{InputBits}
-use Rattle.kn_blast.proofs.Laying.{only_none, laid_more, laid_whole, bits_of-push, word_positive, next_count}
+use Rattle.kn_blast.proofs.Laying.{only_none, laid_more, laid_whole, word_positive, next_count}
 use Rattle.kn_blast.proofs.opening.laid_out.Goals as goal
 
 pub loop-node-init : goal.loop-node-init

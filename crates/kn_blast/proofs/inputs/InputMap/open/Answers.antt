@@ -1,5 +1,4 @@
 -- The widths at marked places are those with which roots read inputs.
-use Rattle.kn_blast.specs.Inputs.{AreInputBits}
 use Rattle.kn_blast.proofs.Opened.{opened_order, opened_covers, opened_read}
 use Rattle.kn_blast.proofs.inputs.InputMap.open.Goals as goal
 
