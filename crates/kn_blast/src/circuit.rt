@@ -1,0 +1,193 @@
+//! The circuit of a term, node by node.
+
+ghost use Rattle.std.specs.Prelude.{◌≡◌, ℕ, ◌+◌, ◌-◌, ◌<◌, ◌≤◌, ◌&&◌, Bool, true, false, nat_lt, List, length, IfOk, Some, slice_get, slice_index_or};
+ghost use Rattle.kn_term.specs.declared.node.Node.{Node as NodeOf};
+ghost use Rattle.kn_term.specs.Terms.{Valuation, ev};
+ghost use Rattle.kn_term.specs.Terms.{input_word};
+ghost use Rattle.kn_term.specs.Nodes.{term_at, term_of, terms_of, IsNodeAt};
+ghost use Rattle.kn_aig.specs.Circuits.{Stands};
+ghost use Rattle.kn_blast.specs.Spelling.{number, AllStand, Grows, Has, Spells};
+ghost use Rattle.kn_blast.specs.Inputs.{given_by, width_of, word_before, IsGivenBy, Covers, IsOpenIn, BeginsWithInputs};
+ghost use Rattle.kn_blast.specs.Reached.{IsMarked, AreMarkedFrom, IsOperand};
+ghost use Rattle.kn_blast.specs.Tables.{IsWordOf, AreWords, HasOperandWords, AreWordsOf};
+
+use crate::inputs::InputMap;
+use crate::marks::reached;
+use crate::nodes::{chosen, word_edges};
+use crate::operators::operate;
+use crate::words::constant;
+use kn_aig::{Aig, Edge};
+use kn_term::{Node, Ref, Terms, words_by_inputs};
+use std::alloc::{AllocError, Global};
+
+/// Sixteen edges, the lowest bit first.
+pub type Word = [Edge; 16];
+
+/// The circuit of a term: whatever the inputs of the circuit are, the edges spell the word that the term has where the
+/// inputs of the network are what these bits spell. The map was opened on this circuit, or on one that it grew from, and
+/// has each input that the term reads, at least as wide. No input comes to the circuit, and earlier edges keep their
+/// values. A node that the term has in it several times has one word of edges. Err is want of memory.
+pub fn blast(
+    alloc: Global,
+    terms: &Terms,
+    r: Ref,
+    aig: &mut Aig,
+    inputs: &InputMap,
+) -> Result<Word, AllocError>
+    requires stands { r.index < length terms.now }
+    requires open { IsOpenIn inputs.now aig.old }
+    requires covers { Covers inputs.now (term_at terms.now r.index) }
+    ensures stand { IfOk result (λ word. AllStand aig.new word) }
+    ensures value { IfOk result (λ word. (bits : List Bool) (a : Valuation) → IsGivenBy bits inputs.now a → number bits aig.new word ≡ ev a (term_at terms.now r.index)) }
+    ensures grows { Grows aig.old aig.new }
+{
+    words_by_inputs();
+    let needed = reached(alloc, terms, &[r])?;
+    let table = words_of(alloc, terms, aig, inputs, &needed)?;
+    Ok(table[r.index])
+}
+
+/// For each place that is needed the word of its term.
+fn words_of(
+    alloc: Global,
+    terms: &Terms,
+    aig: &mut Aig,
+    inputs: &InputMap,
+    needed: &[bool],
+) -> Result<Vec<Word>, AllocError>
+    requires few { length needed.now ≤ length terms.now }
+    requires operands { AreMarkedFrom terms.now needed.now 0 }
+    requires open { IsOpenIn inputs.now aig.old }
+    requires covers { (place : ℕ) → IsMarked needed.now place → Covers inputs.now (term_at terms.now place) }
+    ensures count { IfOk result (λ v. length v.items ≡ length needed.now) }
+    ensures words { IfOk result (λ v. AreWords aig.new v.items) }
+    ensures values { IfOk result (λ v. AreWordsOf aig.new inputs.now terms.now needed.now v.items) }
+    ensures grows { Grows aig.old aig.new }
+{
+    let mut table = Vec::new(alloc);
+    for place in 0..needed.len() {
+        let word = word_where(alloc, terms, aig, inputs, &table, needed[place])?;
+        table.push(word)?;
+    }
+    Ok(table)
+}
+
+/// The word of the term at the place behind a table, if it is needed.
+fn word_where(
+    alloc: Global,
+    terms: &Terms,
+    aig: &mut Aig,
+    inputs: &InputMap,
+    table: &[Word],
+    is_needed: bool,
+) -> Result<Word, AllocError>
+    requires place { length table.now < length terms.now }
+    requires words { AreWords aig.old table.now }
+    requires operands { is_needed ≡ true → (n : NodeOf) → slice_get terms.now (length table.now) ≡ Some n → HasOperandWords aig.old inputs.now terms.now table.now n }
+    requires open { IsOpenIn inputs.now aig.old }
+    requires covers { is_needed ≡ true → Covers inputs.now (term_at terms.now (length table.now)) }
+    ensures stand { IfOk result (λ word. AllStand aig.new word) }
+    ensures many { IfOk result (λ word. length word ≡ 16) }
+    ensures value { IfOk result (λ word. is_needed ≡ true → IsWordOf aig.new inputs.now (term_at terms.now (length table.now)) word) }
+    ensures grows { Grows aig.old aig.new }
+{
+    let zero = constant(aig, false);
+    let mut word = [zero; 16];
+    if is_needed {
+        let node = terms.node(Ref { index: table.len() });
+        let edges = word_of(alloc, aig, inputs, table, node)?;
+        word.copy_from_slice(&edges);
+    }
+    Ok(word)
+}
+
+/// The word of a node, out of those of the nodes before it.
+fn word_of(
+    alloc: Global,
+    aig: &mut Aig,
+    inputs: &InputMap,
+    table: &[Word],
+    node: Node,
+) -> Result<Vec<Edge>, AllocError>
+    requires stands { IsNodeAt (length table.now) node }
+    requires words { AreWords aig.old table.now }
+    requires open { IsOpenIn inputs.now aig.old }
+    ensures stand { IfOk result (λ v. AllStand aig.new v.items) }
+    ensures many { IfOk result (λ v. length v.items ≡ 16) }
+    ensures value { IfOk result (λ v. (ns : List NodeOf) → HasOperandWords aig.old inputs.now ns table.now node → Covers inputs.now (term_of (terms_of ns) node) → IsWordOf aig.new inputs.now (term_of (terms_of ns) node) v.items) }
+    ensures grows { Grows aig.old aig.new }
+{
+    match node {
+        Node::Konst(word) => word_edges(alloc, aig, word),
+        Node::Input { node, index, width } => input_edges(alloc, aig, inputs, node, index, width),
+        Node::Apply(op, x, y) => operate(alloc, aig, op, &table[x.index], &table[y.index]),
+        Node::Ite(c, x, y) => {
+            chosen(
+                alloc,
+                aig,
+                &table[c.index],
+                &table[x.index],
+                &table[y.index],
+            )
+        }
+    }
+}
+
+/// The word of an input.
+fn input_edges(
+    alloc: Global,
+    aig: &Aig,
+    inputs: &InputMap,
+    node: u32,
+    index: u32,
+    width: u32,
+) -> Result<Vec<Edge>, AllocError>
+    requires width { width ≤ 16 }
+    requires open { IsOpenIn inputs.now aig.now }
+    ensures stand { IfOk result (λ v. AllStand aig.now v.items) }
+    ensures many { IfOk result (λ v. length v.items ≡ 16) }
+    ensures value { IfOk result (λ v. width ≤ width_of inputs.now node index → Spells aig.now v.items 16 (λ bits. input_word (given_by bits inputs.now) node index width)) }
+{
+    match inputs.find(node, index) {
+        Some(bits) if width <= bits.width => edges_before(alloc, aig, bits.lowest, width),
+        _ => word_edges(alloc, aig, 0),
+    }
+}
+
+/// The word of so many inputs of a circuit, of which the lowest is the one with this number, and higher ones stand before
+/// it.
+fn edges_before(
+    alloc: Global,
+    aig: &Aig,
+    lowest: usize,
+    width: u32,
+) -> Result<Vec<Edge>, AllocError>
+    requires width { width ≤ 16 }
+    requires room { width ≤ lowest + 1 }
+    requires inputs { BeginsWithInputs aig.now (lowest + 1) }
+    ensures { IfOk result (λ v. Spells aig.now v.items 16 (λ bits. word_before bits lowest width)) }
+{
+    let mut edges = Vec::new(alloc);
+    for place in 0..16_u32 {
+        let edge = edge_before(aig, lowest, width, place);
+        edges.push(edge)?;
+    }
+    Ok(edges)
+}
+
+/// The edge of the bit at a place of so many inputs of a circuit; behind them there are 0.
+fn edge_before(aig: &Aig, lowest: usize, width: u32, place: u32) -> Edge
+    requires room { width ≤ lowest + 1 }
+    requires inputs { BeginsWithInputs aig.now (lowest + 1) }
+    ensures { Has aig.now result (λ bits. nat_lt place width && slice_index_or bits (lowest - place) false) }
+{
+    let _size = aig.size();
+    if place < width {
+        Edge {
+            node: 1 + (lowest - place as usize),
+            inverted: false,
+        }
+    } else {
+        constant(aig, false)
+    }
+}

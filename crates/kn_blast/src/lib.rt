@@ -1,0 +1,21 @@
+//! Circuits of terms: sixteen edges that have the bits of a term's word, whatever the inputs are.
+#![tactic(auto)]
+
+mod arith;
+mod circuit;
+mod division;
+mod gates;
+mod inputs;
+mod marks;
+mod nodes;
+mod opening;
+mod operators;
+mod shifts;
+mod words;
+
+pub use circuit::{Word, blast};
+pub use inputs::{InputBits, InputMap};
+pub use std::alloc::AllocError as Memory;
+
+#[cfg(test)]
+mod tests;
