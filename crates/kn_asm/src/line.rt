@@ -35,6 +35,7 @@ impl Model for Line {
 }
 
 impl Line {
+    /// Its label, if it has one.
     pub fn label(&self) -> Option<&str>
         ensures { option_map (λ s. s.now) result ≡ self.now.label }
     {

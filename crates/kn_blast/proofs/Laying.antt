@@ -61,10 +61,6 @@ only_more old new only is =
       count,
     )
 
--- fewer inputs
-pub begins_fewer : (ns : List AigNode) (few many : ℕ) → few ≤ many → BeginsWithInputs ns many → BeginsWithInputs ns few
-begins_fewer ns few many h all place i = all place (omega (arith, h, i))
-
 -- the inputs of a circuit that grew
 pub begins_longer : (old new more : List AigNode) (count : ℕ) → new ≡ old ++ more → BeginsWithInputs old count → BeginsWithInputs new count
 begins_longer old new more count e all place h =

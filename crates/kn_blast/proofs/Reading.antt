@@ -77,13 +77,6 @@ root_read ns roots old new i r is up all place n k width mark reads = elim (mark
   | inr before ↦ all place n k width before reads
 ]
 
--- no mark, no root
-pub none_read : (ns : List Node) (roots : List Ref) (marks : List Bool) → length marks ≡ 0 → ReadOnlyRoots ns roots marks
-none_read ns roots marks none place n k width mark reads = absurd (never (sym mark ∙ get_or_past marks place false (omega (arith, none))))
-  where
-    never : true ≡ false → ⊥
-    never e = cc
-
 -- the widths at one more place
 pub wide_more : (ns : List Node) (marks : List Bool) (old new : Valuation) (i : ℕ) (b : Bool) → (IsMarked marks i → b ≡ true) → IsWidened ns i b old new → AreWide ns marks old i → AreWide ns marks new (i + 1)
 wide_more ns marks old new i b is w all place n k width h mark e = elim (cases_lt place i) [
