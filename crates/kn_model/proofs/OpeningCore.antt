@@ -5,7 +5,7 @@ use Rattle.std.specs.List.{AllByRecursion}
 use Rattle.kn_model.specs.Terms.{Term, terms}
 use Rattle.kn_model.specs.Histories.{gots, Done}
 use Rattle.kn_model.specs.Packets.{Parcel, stamp_of}
-use Rattle.kn_model.specs.Nodes.{State, Node}
+use Rattle.kn_model.specs.Nodes.{Node}
 use Rattle.kn_model.specs.Scenarios.{Scenario, name_of, opening, cob, node_at}
 use Rattle.kn_model.specs.Conditions.{that, StandsFor, Inputs, AreDistinct, holds}
 use Rattle.kn_model.specs.Alikes.{Alike}
@@ -13,30 +13,12 @@ use Rattle.kn_model.specs.Replays.{record_of, SameSet, node_of, own_of}
 use Rattle.kn_model.specs.Cores.{Held, StateView, DstateView, IsSame, AreSameNodes, finished, picked, state_at, IsPlaced, FitsColumns, boxes}
 use Rattle.kn_model.specs.WorkedLimits.{one_half}
 use Rattle.kn_model.specs.WorkedCores.{net, opening_core, one_side, unsent, OpeningStands, Crossed, Unsent, Doubled, Unplaced, NotLeast, Marked, NotDrawn, StoppedEarly, LeftOut}
+use Rattle.kn_model.proofs.AlikeTerms.{alike_self}
 use Rattle.kn_model.proofs.LeastReport.{least_inputs}
 use Rattle.kn_model.proofs.Lists.{all-weaker}
 use Rattle.kn_model.proofs.OneHalf.{the_only}
 use Rattle.kn_model.proofs.OverLimits.{itself, of_map, records_kept}
 use Rattle.kn_model.proofs.Rising.{names_distinct}
-
-pub alike_self : (s : State Term) → Alike s s
-alike_self s = record {
-  traces = refl;
-  outcomes = refl;
-  timers = refl;
-  inputs = refl;
-  sent = refl;
-  losses = refl;
-  duplications = refl;
-  booted = refl;
-  reboots = refl;
-  keys = refl;
-  registers = λ a. refl;
-  memory = λ a. refl;
-  payload = λ a. refl;
-  own = λ a. refl;
-  reads = λ r c. c;
-}
 
 pub same_nodes : (ys : List (Node Term)) → AreSameNodes ys ys
 same_nodes [] = tt

@@ -17,7 +17,8 @@ use Rattle.kn_model.specs.WorkedCores.{sending, booted, packet, sent_core, with_
 use Rattle.kn_model.proofs.Implied.{all-contains}
 use Rattle.kn_model.proofs.LeastInputs.{forced_is_least}
 use Rattle.kn_model.proofs.OneHalf.{the_only, stays}
-use Rattle.kn_model.proofs.OpeningCore.{alike_self, same_self, one_distinct}
+use Rattle.kn_model.proofs.AlikeTerms.{alike_self}
+use Rattle.kn_model.proofs.OpeningCore.{same_self, one_distinct}
 
 abbrev silent : DstateView
 silent = with_sender (0 ∷ []) []
@@ -37,23 +38,23 @@ made k = slice_index_or (finished core) k (opening terms sending)
 
 -- the receiver, with its guard in two spellings
 same_receiver : Alike (node_at terms (made 1) 1).state (node_at terms (end 0) 1).state
-same_receiver = record {
-  traces = refl;
-  outcomes = refl;
-  timers = refl;
-  inputs = refl;
-  sent = refl;
-  losses = refl;
-  duplications = refl;
-  booted = refl;
-  reboots = refl;
-  keys = refl;
-  registers = λ a. refl;
-  memory = λ a. refl;
-  payload = λ a. refl;
-  own = λ a. refl;
-  reads = λ r c. c;
-}
+same_receiver =
+    let same = alike_self (node_at terms (end 0) 1).state in
+    record {
+      trace = refl;
+      outcome = refl;
+      timers = refl;
+      inputs = refl;
+      sent = refl;
+      losses = refl;
+      duplications = refl;
+      booted = refl;
+      reboots = refl;
+      registers = same.registers;
+      memory = same.memory;
+      queue = (record { key = refl; payload = same.queue.0.payload }, tt);
+      own = record { holds = λ a. refl; reads = λ r c. c };
+    }
 
 same_loud : IsSame (made 1) (end 0)
 same_loud = record {

@@ -280,6 +280,16 @@ AlikeReadingLess = Alike base reading
 abbrev pub ReadsMore : Type 0
 ReadsMore = Alike reading base → ⊥
 
+-- nor does it help that another word reads it
+abbrev pub reading_apart : State Term
+reading_apart = record base { registers = Choice (Word 1) (Word 0) (Input 0 0 1) ∷ Input 0 0 1 ∷ replicate 14 (Word 0) }
+
+abbrev pub reading_once : State Term
+reading_once = record base { registers = Word 0 ∷ Input 0 0 1 ∷ replicate 14 (Word 0) }
+
+abbrev pub WordByWord : Type 0
+WordByWord = Alike reading_apart reading_once → ⊥
+
 -- a state is not alike to the one with a packet in its queue
 abbrev pub IsOther : State Term → Type 0
 IsOther s = Alike s base → ⊥

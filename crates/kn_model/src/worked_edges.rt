@@ -1,6 +1,6 @@
 //! Worked edges of the rules, each by computation.
 
-ghost use Rattle.kn_model.specs.WorkedEdges.{TwoLosses, TwoStamps, SendBothReplays, RebootsTwice, OtherReplays, FinishedFromSecond, WaitingStates, NothingAfter, RebootsFirstHistories, RebootsFirstInputs, IndexedOutcomes, LastIndex, IndexOut, IndexedCovered, NowhereNames, NowhereHolds, NowhereRuns, AlikeOtherwise, AlikeReadingLess, ReadsMore, OtherCounts, OtherValues, NoSuchNode, BarelyNames, BarelyOutcomes, BcastLastThree, BcastNoLink, BcastTwoFit, BootDue, CopyLost, CountsLeft, DoubledCounts, DoubledNames, EndedDue, FuelAtAssert, FuelAtBranch, FuelPastBranch, HaltedEvents, HaltedHistories, HaltedQueues, HistoriesRise, LastChoice, LateDue, MailDue, NoChoice, NoLateBoot, NoReboot, RebootDue, RebootsBusy, RelayedCovered, RelayedHistories, RelayedNames, RelayedOwn, RelayedRecords, RelayedReplays, TimerDue};
+ghost use Rattle.kn_model.specs.WorkedEdges.{TwoLosses, TwoStamps, SendBothReplays, RebootsTwice, OtherReplays, FinishedFromSecond, WaitingStates, NothingAfter, RebootsFirstHistories, RebootsFirstInputs, IndexedOutcomes, LastIndex, IndexOut, IndexedCovered, NowhereNames, NowhereHolds, NowhereRuns, AlikeOtherwise, AlikeReadingLess, ReadsMore, OtherCounts, OtherValues, NoSuchNode, BarelyNames, BarelyOutcomes, BcastLastThree, BcastNoLink, BcastTwoFit, BootDue, CopyLost, CountsLeft, DoubledCounts, DoubledNames, EndedDue, FuelAtAssert, FuelAtBranch, FuelPastBranch, HaltedEvents, HaltedHistories, HaltedQueues, HistoriesRise, LastChoice, LateDue, MailDue, NoChoice, NoLateBoot, NoReboot, RebootDue, RebootsBusy, RelayedCovered, RelayedHistories, RelayedNames, RelayedOwn, RelayedRecords, RelayedReplays, TimerDue, WordByWord};
 
 /// An assertion as the last instruction that the fuel allows: the side that fails by it fails so, and the other one by fuel.
 pub fn fuel_at_assert()
@@ -92,6 +92,7 @@ pub fn alike_otherwise()
     ensures words { AlikeOtherwise }
     ensures reads_less { AlikeReadingLess }
     ensures reads_more { ReadsMore }
+    ensures word_by_word { WordByWord }
 {}
 
 /// States of which one part differs are not alike.

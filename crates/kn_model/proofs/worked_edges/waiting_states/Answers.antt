@@ -3,6 +3,7 @@ use Rattle.kn_model.specs.Terms.{Term, terms}
 use Rattle.kn_model.specs.Packets.{Packet}
 use Rattle.kn_model.specs.Scenarios.{Scenario, opening, settled_from, node_at}
 use Rattle.kn_model.specs.Alikes.{IsMet, IsQueueOf, IsStateOf}
+use Rattle.kn_model.proofs.AlikeTerms.{alike_self}
 use Rattle.kn_model.specs.WorkedPackets.{packet}
 use Rattle.kn_model.specs.WorkedEdges.{barely, waiting}
 use Rattle.kn_model.proofs.worked_edges.waiting_states.Goals as goal
@@ -31,23 +32,7 @@ with_queue q h = record {
   met = met;
   queue = q;
   queued = h;
-  alike = record {
-    traces = refl;
-    outcomes = refl;
-    timers = refl;
-    inputs = refl;
-    sent = refl;
-    losses = refl;
-    duplications = refl;
-    booted = refl;
-    reboots = refl;
-    keys = refl;
-    registers = λ a. refl;
-    memory = λ a. refl;
-    payload = λ a. refl;
-    own = λ a. refl;
-    reads = λ r h. h;
-  };
+  alike = alike_self (waiting q);
 }
 
 pub returns : goal.returns
