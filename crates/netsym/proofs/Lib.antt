@@ -5,7 +5,6 @@ pub mod PlainPrograms
 pub mod PlainWays
 pub mod Plainness
 pub mod Steps
-pub mod Queues
 pub mod KeptSeen
 pub mod KeptLive
 pub mod KeptWhole
