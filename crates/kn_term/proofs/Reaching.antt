@@ -195,6 +195,28 @@ among_at [] i place e = absurd cc
 among_at (p ∷ ps) zero place e = inl (cc)
 among_at (p ∷ ps) (suc i) place e = inr (among_at ps i place e)
 
+-- a place that is among others stands at one of their places
+place_of : (ps : List ℕ) (k : ℕ) → IsAmong ps k → (i : ℕ) × (slice_get ps i ≡ Some k)
+place_of [] k among = absurd among
+place_of (p ∷ ps) k among = elim among [ | inl e ↦ (zero, ap (λ (q : ℕ). Some q) (sym e)) | inr m ↦ let there = place_of ps k m in (suc there.0, there.1) ]
+
+among_take : (ps : List ℕ) (i k : ℕ) → IsAmong (take i ps) k → IsAmong ps k
+among_take ps zero k among = absurd among
+among_take [] (suc i) k among = absurd among
+among_take (p ∷ ps) (suc i) k among = elim among [ | inl e ↦ inl e | inr m ↦ inr (among_take ps i k m) ]
+
+-- places in order stand in the list
+pub in_order_within : (ns : List Node) (ps : List ℕ) (i k : ℕ) → AreInOrder ns ps → IsAmong (take i ps) k → k < length ns
+in_order_within ns ps i k order among = let there = place_of ps k (among_take ps i k among) in (order there.0 k there.1).0
+
+-- a list and one more place
+pub among_push : (ps : List ℕ) (place k : ℕ) → IsAmong (ps ++ place ∷ []) k → (k ≡ place) ⊎ IsAmong ps k
+among_push [] place k among = elim among [ inl e ↦ inl e | inr none ↦ absurd none ]
+among_push (p ∷ ps) place k among = elim among [
+  | inl e ↦ inr (inl e)
+  | inr rest ↦ elim (among_push ps place k rest) [ inl e ↦ inl e | inr was ↦ inr (inr was) ]
+]
+
 among_above : (p k : ℕ) (ps : List ℕ) → AllByRecursion (λ q. p < q) ps → IsAmong ps k → p < k
 among_above p k [] all among = absurd among
 among_above p k (q ∷ qs) all among = elim among [ inl e ↦ omega (arith, e, all.0) | inr m ↦ among_above p k qs all.1 m ]
