@@ -77,15 +77,6 @@ root_read ns roots old new i r is up all place n k width mark reads = elim (mark
   | inr before ↦ all place n k width before reads
 ]
 
--- the widths at one more place
-pub wide_more : (ns : List Node) (marks : List Bool) (old new : Valuation) (i : ℕ) (b : Bool) → (IsMarked marks i → b ≡ true) → IsWidened ns i b old new → AreWide ns marks old i → AreWide ns marks new (i + 1)
-wide_more ns marks old new i b is w all place n k width h mark e = elim (cases_lt place i) [
-  | inl before ↦ omega (arith, all place n k width before mark e, w.kept n k)
-  | inr past ↦
-      let here : place ≡ i = omega (arith, h, past) in
-      w.covers n k width (is (subst (IsMarked marks) here mark)) (subst (λ (q : ℕ). slice_get ns q ≡ Some (nodes.Input n k width)) here e)
-]
-
 pub read_more : (ns : List Node) (marks : List Bool) (old new : Valuation) (i : ℕ) (b : Bool) → (b ≡ true → IsMarked marks i) → IsWidened ns i b old new → AreRead ns marks old → AreRead ns marks new
 read_more ns marks old new i b is w all n k h = elim (w.read n k) [
   | inl same ↦ subst (λ (v : ℕ). (place : ℕ) × IsMarked marks place × (slice_get ns place ≡ Some (nodes.Input n k v))) (sym same) (all n k (omega (arith, h, same)))

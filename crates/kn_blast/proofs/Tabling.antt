@@ -22,12 +22,6 @@ use Rattle.kn_blast.proofs.Laying.{word_before-cut, begins_longer}
 abbrev pub row : List (List Edge) → ℕ → List Edge → List Edge
 row table place d = get_or table place d
 
-pub row_stands : (ns : List AigNode) (table : List (List Edge)) (place : ℕ) (d : List Edge) → AreWords ns table → place < length table → AllStand ns (row table place d)
-row_stands ns table place d are h = (are place (row table place d) (slice_get-get_or table place d h)).0
-
-pub row_many : (ns : List AigNode) (table : List (List Edge)) (place : ℕ) (d : List Edge) → AreWords ns table → place < length table → length (row table place d) ≡ 16
-row_many ns table place d are h = (are place (row table place d) (slice_get-get_or table place d h)).1
-
 -- what an operand spells
 operand_spells : (ns : List AigNode) (entries : List InputBits) (terms : List Node) (table : List (List Edge)) (n : Node) (place : ℕ) (d : List Edge) → HasOperandWords ns entries terms table n → IsOperand n place → place < length table
     → (bits : List Bool) → number bits ns (row table place d) ≡ ev (given_by bits entries) (term_at terms place)
@@ -68,9 +62,6 @@ pub input_word_of : (ns : List AigNode) (v : List Edge) (entries : List InputBit
     → (width ≤ width_of entries n k → Spells ns v 16 (λ bits. input_word (given_by bits entries) n k width)) → IsWordOf ns entries (term_of (terms_of terms) m) v
 input_word_of ns v entries terms n k width m is covers made =
     subst (λ (o : Node). IsWordOf ns entries (term_of (terms_of terms) o) v) (sym is) (made (input_covered entries terms n k width m is covers))
-
-pub constant_word_of : (ns : List AigNode) (v : List Edge) (entries : List InputBits) (terms : List Node) (w : ℕ) (m : Node) → m ≡ nodes.Konst w → Spells ns v 16 (λ bits. w) → IsWordOf ns entries (term_of (terms_of terms) m) v
-constant_word_of ns v entries terms w m is made = subst (λ (o : Node). IsWordOf ns entries (term_of (terms_of terms) o) v) (sym is) made
 
 -- where an element of a table with one more stands
 get_push : {A : Type 0} (xs : List A) (y : A) (k : ℕ) (x : A) → slice_get (xs ++ y ∷ []) k ≡ Some x → (slice_get xs k ≡ Some x) ⊎ ((k ≡ length xs) × (y ≡ x))
