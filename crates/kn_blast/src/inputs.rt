@@ -1,7 +1,7 @@
 //! Which inputs of a network the inputs of a circuit are.
 
 ghost use Rattle.std.specs.Prelude.{◌≡◌, ℕ, ◌+◌, ◌<◌, ◌≤◌, ◌^◌, ◌&&◌, nat_eq, Bool, List, length, IfOk, MatchOption};
-ghost use Rattle.kn_built.specs.Built.{Extends};
+ghost use Rattle.kn_aig.specs.Circuits.{Extends};
 ghost use Rattle.kn_term.specs.Nodes.{term_at};
 ghost use Rattle.kn_term.specs.declared.node.Ref.{Ref as RefOf};
 ghost use Rattle.std.specs.Prelude.{slice_get, Some};

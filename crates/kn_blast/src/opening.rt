@@ -1,7 +1,7 @@
 //! The widths with which roots read inputs, and the inputs of a circuit for them.
 
 ghost use Rattle.std.specs.Prelude.{◌≡◌, ℕ, ◌+◌, ◌<◌, ◌≤◌, ◌-◌, ◌⊎◌, length, IfOk, OnOk};
-ghost use Rattle.kn_built.specs.Built.{Extends};
+ghost use Rattle.kn_aig.specs.Circuits.{Extends};
 ghost use Rattle.kn_term.specs.Terms.{listed};
 ghost use Rattle.kn_term.specs.Valuations.{AreEntries};
 ghost use Rattle.kn_term.specs.Reached.{AreInOrder};

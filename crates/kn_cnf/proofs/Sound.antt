@@ -3,13 +3,13 @@ use Rattle.std.proofs.Common.{◌≡◌, ℕ, zero, suc, Bool, true, false, not,
 use Rattle.std.specs.Prelude.{Some, None, slice_get, if◌then◌else◌}
 use Rattle.std.specs.declared.option.Option.{Option}
 use Rattle.std.specs.Option.{option_map}
-use Rattle.std.proofs.lemmas.Bool.{cases_Bool, eqb-true}
+use Rattle.std.proofs.lemmas.Bool.{cases_Bool, and_parts, eqb-true}
 use Rattle.kn_cnf.specs.declared.clauses.Lit.{Lit}
 use Rattle.kn_cnf.specs.Formulas.{Step}
 use Rattle.kn_cnf.specs.Truth.{lit_true, clause_true, all_true, Meets, AreNeverMet}
 use Rattle.kn_cnf.specs.Units.{negated, valued, lit_value, Has}
-use Rattle.kn_unsat.specs.Good.{falsified, Refutes, IsGood, AreGood, Checks}
-use Rattle.kn_unsat.proofs.Steps.{same_or_not, open_false}
+use Rattle.kn_cnf.specs.Good.{falsified, Refutes, IsGood, AreGood, Checks}
+use Rattle.kn_cnf.proofs.Literals.{same_or_not, open_false}
 
 -- each of these literals is true
 abbrev pub AllTrue : (ℕ → Bool) → List Lit → Type 0
@@ -79,13 +79,8 @@ true_literal v (m ∷ ms) e =
 -- a clause of clauses that are met is true
 pub met_at : (v : ℕ → Bool) (cs : List (List Lit)) (h : ℕ) (c : List Lit) → Meets v cs → slice_get cs h ≡ Some c → clause_true v c ≡ true
 met_at v [] h c meets at = absurd cc
-met_at v (d ∷ ds) h c meets at = go (λ k m e. met_at v ds k c m e) h at (both (clause_true v d) (all_true v ds) meets)
+met_at v (d ∷ ds) h c meets at = go (λ k m e. met_at v ds k c m e) h at (and_parts (clause_true v d) (all_true v ds) meets)
   where
-    both : (a b : Bool) → (a && b) ≡ true → (a ≡ true) × (b ≡ true)
-    both true true e = (refl, refl)
-    both true false e = (refl, cc)
-    both false b e = absurd cc
-
     go : ((k : ℕ) → all_true v ds ≡ true → slice_get ds k ≡ Some c → clause_true v c ≡ true) → (h : ℕ) → slice_get (d ∷ ds) h ≡ Some c → (clause_true v d ≡ true) × (all_true v ds ≡ true) → clause_true v c ≡ true
     go later zero at m = let same : d ≡ c = cc in sym (ap (clause_true v) same) ∙ m.0
     go later (suc k) at m = later k m.1 at

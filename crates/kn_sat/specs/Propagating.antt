@@ -1,27 +1,18 @@
--- How clauses stand on a trail, and what propagation answers.
+-- What propagation answers.
 use Rattle.std.specs.Prelude.{◌≡◌, ◌<◌, ◌++◌, ℕ, Bool, List, map, length, slice_get, Some, None, []}
 use Rattle.kn_cnf.specs.declared.clauses.Lit.{Lit}
 use Rattle.kn_cnf.specs.Formulas.{Step}
-use Rattle.kn_cnf.specs.Units.{valued, IsFalse, IsUnit}
-use Rattle.kn_unsat.specs.Good.{AreGood}
+use Rattle.kn_cnf.specs.Units.{valued, IsFalse}
+use Rattle.kn_cnf.specs.States.{IsCalm}
+use Rattle.kn_cnf.specs.Good.{AreGood}
 use Rattle.kn_sat.specs.declared.trail.Assigned.{Assigned}
-use Rattle.kn_sat.specs.declared.propagation.Standing.{Standing}
-use Rattle.kn_sat.specs.declared.propagation.Standing.TheVariants as standings
+use Rattle.kn_cnf.specs.declared.states.ClauseState.{ClauseState}
+use Rattle.kn_cnf.specs.declared.states.ClauseState.TheVariants as states
 use Rattle.kn_sat.specs.declared.propagation.Scan.{Scan}
 use Rattle.kn_sat.specs.declared.propagation.Scan.TheVariants as scans
 use Rattle.kn_sat.specs.declared.propagation.Settled.{Settled}
 use Rattle.kn_sat.specs.declared.propagation.Settled.TheVariants as settled
 use Rattle.kn_sat.specs.Trails.{latest, IsTrail}
-
--- the clause is neither false nor unit
-abbrev pub IsCalm : List Lit → List Lit → Type 0
-IsCalm ls c = (IsFalse ls c → ⊥) × ((l : Lit) → IsUnit ls c l → ⊥)
-
--- what it means that a clause stands so
-abbrev pub Means : List Lit → List Lit → Standing → Type 0
-Means ls c standings.False = IsFalse ls c
-Means ls c (standings.Unit l) = IsUnit ls c l
-Means ls c standings.Other = IsCalm ls c
 
 -- the clause with this number is false
 abbrev pub IsConflict : List (List Lit) → List Assigned → ℕ → Type 0
@@ -32,10 +23,10 @@ abbrev pub AreCalm : List (List Lit) → List Assigned → Type 0
 AreCalm cs es = (h : ℕ) (c : List Lit) → slice_get cs h ≡ Some c → IsCalm (latest es) c
 
 -- a visit of the clause with this number: it is false, or it was unit and its literal was assigned, or nothing changed
-abbrev pub IsVisited : List (List Lit) → ℕ → List Assigned → List Assigned → Standing → Type 0
-IsVisited cs h old new standings.False = IsConflict cs new h
-IsVisited cs h old new (standings.Unit l) = length old < length new
-IsVisited cs h old new standings.Other = (new ≡ old) × ((c : List Lit) → slice_get cs h ≡ Some c → IsCalm (latest new) c)
+abbrev pub IsVisited : List (List Lit) → ℕ → List Assigned → List Assigned → ClauseState → Type 0
+IsVisited cs h old new states.False = IsConflict cs new h
+IsVisited cs h old new (states.Unit l) = length old < length new
+IsVisited cs h old new states.Other = (new ≡ old) × ((c : List Lit) → slice_get cs h ≡ Some c → IsCalm (latest new) c)
 
 -- a visit of all clauses
 abbrev pub IsScanned : List (List Lit) → List Assigned → List Assigned → Scan → Type 0

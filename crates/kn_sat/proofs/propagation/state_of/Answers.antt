@@ -3,9 +3,9 @@ use Rattle.std.proofs.Common.{◌+◌, false, take, sym, subst}
 use Rattle.std.proofs.lemmas.List.{take_more}
 use Rattle.kn_cnf.specs.declared.clauses.Lit.{Lit}
 use Rattle.kn_sat.specs.Trails.{latest}
-use Rattle.kn_sat.specs.Standings.{IsCalm}
-use Rattle.kn_sat.proofs.Clauses.{calm_whole}
-use Rattle.kn_sat.proofs.propagation.standing_of.Goals as goal
+use Rattle.kn_cnf.specs.States.{IsCalm}
+use Rattle.kn_cnf.proofs.Literals.{calm_whole}
+use Rattle.kn_sat.proofs.propagation.state_of.Goals as goal
 
 pub returns-in-Other : goal.returns-in-Other
 returns-in-Other c =

@@ -1,14 +1,15 @@
--- How a clause stands with a literal more.
-use Rattle.std.proofs.Common.{◌≡◌, Bool, true, false, List, [], ◌∷◌, ◌++◌, refl, sym, subst, ◌∙◌, inl, inr}
+-- The literals of clauses, and how a clause stands with more of them.
+use Rattle.std.proofs.Common.{◌≡◌, ℕ, Bool, true, false, not, List, [], ◌∷◌, ◌++◌, take, drop, refl, ap, sym, subst, ◌∙◌, inl, inr}
 use Rattle.std.specs.Prelude.{Some, None, ◌⊎◌}
 use Rattle.std.specs.declared.option.Option.{Option}
 use Rattle.std.proofs.lemmas.Bool.{cases_Bool}
+use Rattle.std.proofs.lemmas.List.{take-append-drop}
 use Rattle.kn_cnf.specs.declared.clauses.Lit.{Lit}
-use Rattle.kn_cnf.specs.Units.{lit_value, Has, IsFalse, IsUnit}
+use Rattle.kn_cnf.specs.Units.{negated, lit_value, Has, IsFalse, IsUnit}
 use Rattle.kn_cnf.proofs.Equal.{same_lit, lit_decides}
-use Rattle.kn_unsat.specs.declared.standing.Standing.{Standing}
-use Rattle.kn_unsat.specs.declared.standing.Standing.TheVariants as standings
-use Rattle.kn_unsat.specs.Standings.{Means}
+use Rattle.kn_cnf.specs.declared.states.ClauseState.{ClauseState}
+use Rattle.kn_cnf.specs.declared.states.ClauseState.TheVariants as states
+use Rattle.kn_cnf.specs.States.{IsCalm, IsState}
 
 -- two values are not the same
 pub open_false : (o : Option Bool) → o ≡ None → o ≡ Some false → ⊥
@@ -56,16 +57,34 @@ pub has_last : (c : List Lit) (y : Lit) → Has (c ++ y ∷ []) y
 has_last [] y = inl refl
 has_last (m ∷ ms) y = inr (has_last ms y)
 
-module _ (ls xs : List Lit) (y : Lit) where
-  -- what a clause with one more literal needs of the clause
-  front_false : IsFalse ls (xs ++ y ∷ []) → IsFalse ls xs
-  front_false f m h = f m (has_front xs (y ∷ []) m h)
+pub not_not : (b : Bool) → not (not b) ≡ b
+not_not true = refl
+not_not false = refl
 
+-- a literal negated twice
+pub twice : (l : Lit) → negated (negated l) ≡ l
+twice l = ap (λ (n : Bool). record { var = l.var; neg = n }) (not_not l.neg)
+
+-- a clause that is neither false nor unit stays so with more literals
+calm_more : (ls xs ys : List Lit) → IsCalm ls xs → IsCalm ls (xs ++ ys)
+calm_more ls xs ys calm = (
+  λ f. calm.0 (λ m h. f m (has_front xs ys m h)),
+  λ l u. elim (has_or_not xs l) [
+    | inl g ↦ calm.1 l (record { has = g; opens = u.opens; others = λ m h n. u.others m (has_front xs ys m h) n })
+    | inr o ↦ calm.0 (λ m h. u.others m (has_front xs ys m h) (λ e. o (subst (Has xs) e h)))
+  ],
+)
+
+-- what was found calm early stays calm
+pub calm_whole : (ls c : List Lit) (i : ℕ) → IsCalm ls (take i c) → IsCalm ls c
+calm_whole ls c i calm = subst (IsCalm ls) (take-append-drop i c) (calm_more ls (take i c) (drop i c) calm)
+
+module _ (ls xs : List Lit) (y : Lit) where
   false_more : lit_value ls y ≡ Some false → IsFalse ls xs → IsFalse ls (xs ++ y ∷ [])
   false_more v f m h = elim (has_more xs y m h) [ inl g ↦ f m g | inr e ↦ subst (λ (k : Lit). lit_value ls k ≡ Some false) e v ]
 
   -- a true literal
-  pub with_true : lit_value ls y ≡ Some true → Means ls (xs ++ y ∷ []) standings.Other
+  pub with_true : lit_value ls y ≡ Some true → IsState ls (xs ++ y ∷ []) states.Other
   with_true v = (
     λ f. true_false _ v (f y (has_last xs y)),
     λ l u. elim (same_or_not y l) [
@@ -75,23 +94,17 @@ module _ (ls xs : List Lit) (y : Lit) where
   )
 
   -- a false literal
-  pub with_false : lit_value ls y ≡ Some false → (st : Standing) → Means ls xs st → Means ls (xs ++ y ∷ []) st
-  with_false v standings.False m = false_more v m
-  with_false v (standings.Unit l) u = record {
+  pub with_false : lit_value ls y ≡ Some false → (st : ClauseState) → IsState ls xs st → IsState ls (xs ++ y ∷ []) st
+  with_false v states.False m = false_more v m
+  with_false v (states.Unit l) u = record {
     has = has_front xs (y ∷ []) l u.has;
     opens = u.opens;
     others = λ m h n. elim (has_more xs y m h) [ inl g ↦ u.others m g n | inr e ↦ subst (λ (k : Lit). lit_value ls k ≡ Some false) e v ];
   }
-  with_false v standings.Other m = (
-    λ f. m.0 (front_false f),
-    λ l u. elim (has_more xs y l u.has) [
-      | inl g ↦ m.1 l (record { has = g; opens = u.opens; others = λ k h n. u.others k (has_front xs (y ∷ []) k h) n })
-      | inr e ↦ open_false _ u.opens (subst (λ (k : Lit). lit_value ls k ≡ Some false) e v)
-    ],
-  )
+  with_false v states.Other m = calm_more ls xs (y ∷ []) m
 
   -- the first open literal
-  pub with_first : lit_value ls y ≡ None → IsFalse ls xs → Means ls (xs ++ y ∷ []) (standings.Unit y)
+  pub with_first : lit_value ls y ≡ None → IsFalse ls xs → IsState ls (xs ++ y ∷ []) (states.Unit y)
   with_first v f = record {
     has = has_last xs y;
     opens = v;
@@ -99,7 +112,7 @@ module _ (ls xs : List Lit) (y : Lit) where
   }
 
   -- the open literal once more
-  pub with_same : (m : Lit) → m ≡ y → IsUnit ls xs m → Means ls (xs ++ y ∷ []) (standings.Unit m)
+  pub with_same : (m : Lit) → m ≡ y → IsUnit ls xs m → IsState ls (xs ++ y ∷ []) (states.Unit m)
   with_same m same u = record {
     has = has_front xs (y ∷ []) m u.has;
     opens = u.opens;
@@ -107,7 +120,7 @@ module _ (ls xs : List Lit) (y : Lit) where
   }
 
   -- another open literal
-  pub with_second : lit_value ls y ≡ None → (m : Lit) → (m ≡ y → ⊥) → IsUnit ls xs m → Means ls (xs ++ y ∷ []) standings.Other
+  pub with_second : lit_value ls y ≡ None → (m : Lit) → (m ≡ y → ⊥) → IsUnit ls xs m → IsState ls (xs ++ y ∷ []) states.Other
   with_second v m apart u = (
     λ f. open_false _ v (f y (has_last xs y)),
     λ l w.
@@ -115,15 +128,6 @@ module _ (ls xs : List Lit) (y : Lit) where
         open_false _ u.opens (w.others m (has_front xs (y ∷ []) m u.has) first),
   )
 
-  -- an open literal where nothing helps
-  pub with_none : lit_value ls y ≡ None → Means ls xs standings.Other → Means ls (xs ++ y ∷ []) standings.Other
-  with_none v m = (
-    λ f. open_false _ v (f y (has_last xs y)),
-    λ l u. elim (has_more xs y l u.has) [
-      | inl g ↦ m.1 l (record { has = g; opens = u.opens; others = λ k h n. u.others k (has_front xs (y ∷ []) k h) n })
-      | inr e ↦ elim (has_or_not xs y) [
-        | inl g ↦ m.1 y (record { has = g; opens = v; others = λ k h n. u.others k (has_front xs (y ∷ []) k h) (λ kl. n (kl ∙ sym e)) })
-        | inr o ↦ m.0 (λ k h. u.others k (has_front xs (y ∷ []) k h) (λ kl. o (subst (Has xs) (kl ∙ sym e) h)))
-      ]
-    ],
-  )
+  -- any literal where nothing helps
+  pub with_any : IsState ls xs states.Other → IsState ls (xs ++ y ∷ []) states.Other
+  with_any m = calm_more ls xs (y ∷ []) m
