@@ -11,9 +11,8 @@ use Rattle.kn_aig.specs.declared.gates.Edge.{Edge}
 use Rattle.kn_aig.specs.declared.gates.Pair.{Pair}
 use Rattle.kn_aig.specs.declared.gates.AigNode.{AigNode}
 use Rattle.kn_aig.specs.declared.gates.AigNode.TheVariants as nodes
-use Rattle.kn_built.specs.Built.{Extends}
-use Rattle.kn_aig.specs.Circuits.{flip, node_of, values_of, value_of, inputs_of, Fits, AllFit, Stands, IsIndex, IsKept, same_edge, same_pair}
-use Rattle.kn_built.proofs.BuiltLaws.{built_at-extends, built_at-pushed}
+use Rattle.kn_aig.specs.Circuits.{flip, node_of, values_of, value_of, inputs_of, Fits, AllFit, Extends, Stands, IsIndex, IsKept, same_edge, same_pair}
+use Rattle.kn_aig.proofs.Values.{value_at-extends, value_at-push}
 
 -- where an element of a list with one more stands
 get_push : {X : Type 0} (xs : List X) (y : X) (k : ℕ) (n : X) → slice_get (xs ++ y ∷ []) k ≡ Some n → ((k < length xs) × (slice_get xs k ≡ Some n)) ⊎ ((k ≡ length xs) × (y ≡ n))
@@ -99,11 +98,11 @@ IsIndex-gate old p eq before after same itself is absent updates = record {
 
 -- edges keep their values in a longer circuit
 pub value_of-extends : (bits : List Bool) (old new : List AigNode) (e : Edge) → Extends old new → Stands old e → value_of bits new e ≡ value_of bits old e
-value_of-extends bits old new e more stands = ap (flip e.inverted) (built_at-extends (node_of bits) false old new e.node more stands)
+value_of-extends bits old new e more stands = ap (flip e.inverted) (value_at-extends bits old new e.node more stands)
 
 -- the value of a node at the end
 pub value_of-pushed : (bits : List Bool) (old new : List AigNode) (n : AigNode) (e : Edge) → new ≡ old ++ n ∷ [] → length old ≡ e.node → value_of bits new e ≡ flip e.inverted (node_of bits (values_of bits old) n)
-value_of-pushed bits old new n e is place = ap (flip e.inverted) (built_at-pushed (node_of bits) false old new n e.node is place)
+value_of-pushed bits old new n e is place = ap (flip e.inverted) (value_at-push bits old new n e.node is place)
 
 -- equal bits
 same_bit : (a b : Bool) → beq a b ≡ true → a ≡ b

@@ -41,6 +41,7 @@ pub mod HeldGiven
 pub mod Placing
 pub mod Printed
 pub mod Making
+pub mod Decided
 pub mod FormNet
 pub mod Words
 pub mod Ends
