@@ -21,7 +21,7 @@ use Rattle.kn_term.proofs.Entries.{absent}
 use Rattle.kn_blast.specs.declared.inputs.InputBits.{InputBits}
 use Rattle.kn_blast.proofs.Numbers.{has_is}
 use Rattle.kn_blast.specs.Spelling.{weight, Has}
-use Rattle.kn_blast.specs.Inputs.{width_of, bits_of, IsBefore, AreInputBits, word_before, given_by, IsGivenBy, BeginsWithInputs, HasOnlyInputs, laid_out}
+use Rattle.kn_blast.specs.Inputs.{width_of, bits_of, IsBefore, AreInputBits, word_before, given_by, BeginsWithInputs, HasOnlyInputs, laid_out}
 
 get_front : (xs ys : List AigNode) (k : ℕ) → k < length xs → slice_get (xs ++ ys) k ≡ slice_get xs k
 get_front [] ys k h = absurd (omega (arith, h))
@@ -148,26 +148,6 @@ entry_bits first (suc place) (f ∷ es) e h is =
 -- one more bit of a word
 pub word_before-more : (bits : List Bool) (lowest place : ℕ) → word_before bits lowest (place + 1) ≡ word_before bits lowest place + weight (slice_index_or bits (lowest - place) false) place
 word_before-more bits lowest place = let next : place + 1 ≡ suc place = omega arith in ap (word_before bits lowest) next
-
--- words of all entries from a place on
-pub given_more : (bits : List Bool) (es : List InputBits) (place : ℕ) (e : InputBits) (w : ℕ) (old new : Valuation) → slice_get es place ≡ Some e → w ≡ word_before bits e.lowest e.width
-    → listed new e.node e.index ≡ w → ((n k : ℕ) → ((n ≡ e.node) × (k ≡ e.index) → ⊥) → listed new n k ≡ listed old n k)
-    → IsGivenBy bits (drop (place + 1) es) old → IsGivenBy bits (drop place es) new
-given_more bits es place e w old new is word own others all n k =
-    let within : place < length es = slice_get_within es place e is in
-    let front : drop place es ≡ e ∷ drop (place + 1) es = drop_more es place e within ∙ ap (λ (f : InputBits). f ∷ drop (place + 1) es) (get_or_from_slice_get es place e e is) in
-    go (nat_eq e.node n && nat_eq e.index k) refl ∙ sym (ap (λ (xs : List InputBits). listed (given_by bits xs) n k) front)
-  where
-    go : (b : Bool) → (nat_eq e.node n && nat_eq e.index k) ≡ b → listed new n k ≡ listed (given_by bits (e ∷ drop (place + 1) es)) n k
-    go true t =
-        let s = both_true (nat_eq e.node n) (nat_eq e.index k) t in
-        ap (λ (m : ℕ). listed new m k) (sym (eqb-true e.node n s.0)) ∙ (ap (listed new e.node) (sym (eqb-true e.index k s.1)) ∙ (own ∙ (word ∙ sym (ap (λ (b : Bool). cond b (word_before bits e.lowest e.width) (listed (given_by bits (drop (place + 1) es)) n k)) t))))
-    go false t =
-        let other : (n ≡ e.node) × (k ≡ e.index) → ⊥ = λ same. differ n k same.0 same.1 t in
-        others n k other ∙ (all n k ∙ sym (ap (λ (b : Bool). cond b (word_before bits e.lowest e.width) (listed (given_by bits (drop (place + 1) es)) n k)) t))
-      where
-        differ : (n k : ℕ) → n ≡ e.node → k ≡ e.index → (nat_eq e.node n && nat_eq e.index k) ≡ false → ⊥
-        differ n k p q t = grind (arith, p, q, t)
 
 -- the lowest bits of a word
 pub word_before-lt : (bits : List Bool) (lowest width : ℕ) → word_before bits lowest width < 2 ^ width
