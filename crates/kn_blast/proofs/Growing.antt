@@ -1,7 +1,7 @@
 -- Circuits that became longer, step by step.
 use Rattle.std.proofs.Common.{◌≡◌, ℕ, ◌<◌, Bool, true, false, not, ◌&&◌, List, length, refl, ap, sym, subst, ◌∙◌, arith}
 use Rattle.std.specs.Prelude.{◌||◌, min, max, Result, Ok, Err, IfOk}
-use Rattle.kn_word.specs.Words.{one_if, one_of}
+use Rattle.kn_word.specs.Words.{one_if}
 use Rattle.kn_aig.specs.Circuits.{Extends}
 use Rattle.kn_aig.proofs.Values.{extends_same, extends_twice, length_extends}
 use Rattle.kn_aig.specs.declared.gates.Edge.{Edge}
@@ -71,12 +71,6 @@ or_digit true true = refl
 or_digit true false = refl
 or_digit false true = refl
 or_digit false false = refl
-
-pub xor_digit : (a b : Bool) → one_if (differ a b) ≡ one_of (one_if a) (one_if b)
-xor_digit true true = refl
-xor_digit true false = refl
-xor_digit false true = refl
-xor_digit false false = refl
 
 -- a second exclusive or, and what stays
 pub sum_has : (a b d f : List AigNode) (x y c one sum : Edge) → Grows a b → Grows d f → Stands a c → Stands d sum

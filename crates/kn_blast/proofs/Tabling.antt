@@ -63,9 +63,6 @@ pub input_word_of : (ns : List AigNode) (v : List Edge) (entries : List InputBit
 input_word_of ns v entries terms n k width m is covers made =
     subst (λ (o : Node). IsWordOf ns entries (term_of (terms_of terms) o) v) (sym is) (made (input_covered entries terms n k width m is covers))
 
-pub constant_word_of : (ns : List AigNode) (v : List Edge) (entries : List InputBits) (terms : List Node) (w : ℕ) (m : Node) → m ≡ nodes.Konst w → Spells ns v 16 (λ bits. w) → IsWordOf ns entries (term_of (terms_of terms) m) v
-constant_word_of ns v entries terms w m is made = subst (λ (o : Node). IsWordOf ns entries (term_of (terms_of terms) o) v) (sym is) made
-
 -- a table in which a place has another word from now on
 abbrev pub IsPut : (ℕ → Option (List Edge)) → (ℕ → Option (List Edge)) → ℕ → List Edge → Type 0
 IsPut old new place w = (k : ℕ) → new k ≡ cond (nat_eq place k) (Some w) (old k)

@@ -4,8 +4,8 @@ use Rattle.std.specs.Prelude.{Bool, true, false, nat_eq, if◌then◌else◌}
 use Rattle.std.proofs.lemmas.Bool.{eqb-true}
 use Rattle.std.proofs.Math.Nat.{mod_self}
 use Rattle.kn_word.specs.declared.Op.TheVariants as ops
-use Rattle.kn_word.specs.Words.{val, one_of}
-use Rattle.kn_simplify.proofs.Digits.{zero_kept, zero_kept_left, zero_wins, zero_wins_left, same_kept, same_gone, last_kept, last_kept_left, last_wins, last_wins_left}
+use Rattle.kn_word.specs.Words.{val}
+use Rattle.kn_simplify.proofs.Digits.{zero_kept, zero_kept_left, zero_wins, zero_wins_left, same_kept, last_kept, last_kept_left}
 
 pub zero_and : (y : ℕ) → 0 ≡ val ops.And 0 y
 zero_and y = sym (zero_wins_left min (λ d h. omega arith) 16 y)
@@ -28,23 +28,8 @@ zero_or y h = sym (zero_kept_left max (λ d h. omega arith) 16 y h)
 pub or_zero : (x : ℕ) → x < 65536 → x ≡ val ops.Or x 0
 or_zero x h = sym (zero_kept max (λ d h. omega arith) 16 x h)
 
-pub ones_or : (y : ℕ) → 65535 ≡ val ops.Or 65535 y
-ones_or y = sym (last_wins_left max (λ d h. omega arith) y)
-
-pub or_ones : (x : ℕ) → 65535 ≡ val ops.Or x 65535
-or_ones x = sym (last_wins max (λ d h. omega arith) x)
-
 pub or_same : (x : ℕ) → x < 65536 → x ≡ val ops.Or x x
 or_same x h = sym (same_kept max (λ d h. omega arith) 16 x h)
-
-pub zero_xor : (y : ℕ) → y < 65536 → y ≡ val ops.Xor 0 y
-zero_xor y h = sym (zero_kept_left one_of (λ d h. omega arith) 16 y h)
-
-pub xor_zero : (x : ℕ) → x < 65536 → x ≡ val ops.Xor x 0
-xor_zero x h = sym (zero_kept one_of (λ d h. omega arith) 16 x h)
-
-pub xor_same : (x : ℕ) → 0 ≡ val ops.Xor x x
-xor_same x = sym (same_gone one_of (λ d h. omega arith) 16 x)
 
 pub urem_same : (x : ℕ) → 0 ≡ val ops.Urem x x
 urem_same x = either (nat_eq x 0) refl where

@@ -7,6 +7,7 @@ use kn_word::Op;
 use std::alloc::Global;
 use std::test::Fail;
 
+/// Shows that a type may go to other threads, and be read by several.
 fn is_shared<T: Send + Sync>() {}
 
 /// The word of an input of node 2 where input 7 of it is 0x1234.
@@ -19,19 +20,6 @@ fn word_of_an_input(alloc: Global, index: u32, width: u32) -> Result<u16, Memory
     let mut terms = Terms::new(alloc);
     let input = terms.input(2, index, width)?;
     terms.value(&inputs, input)
-}
-
-#[test]
-fn gives_terms_their_words(rt: HostRuntime) -> Result<(), Fail> {
-    assert_eq!(rt; word_of_an_input(rt.alloc(), 7, 16)?, 0x1234);
-    assert_eq!(rt; word_of_an_input(rt.alloc(), 7, 4)?, 4);
-    assert_eq!(rt; word_of_an_input(rt.alloc(), 8, 16)?, 0);
-    let mut terms = Terms::new(rt.alloc());
-    let word = terms.konst(500)?;
-    let inputs = Valuation::new(rt.alloc());
-    assert_eq!(rt; terms.value(&inputs, word)?, 500);
-    assert!(rt; terms.node(word) == Node::Konst(500));
-    Ok(())
 }
 
 /// What an operator makes of two inputs of 16 bits, 0x8003 and 2.
@@ -85,17 +73,6 @@ fn word_of_a_choice(alloc: Global, x: u16, y: u16) -> Result<u16, Memory> {
     terms.value(&inputs, r)
 }
 
-#[test]
-fn chooses_by_whether_a_term_is_zero(rt: HostRuntime) -> Result<(), Fail> {
-    let chosen = word_of_a_choice(rt.alloc(), 1, 9)?;
-    assert_eq!(rt; chosen, 9);
-    let other = word_of_a_choice(rt.alloc(), 0, 9)?;
-    assert_eq!(rt; other, 7);
-    let cut = word_of_a_choice(rt.alloc(), 256, 9)?;
-    assert_eq!(rt; cut, 7);
-    Ok(())
-}
-
 /// Puts the sum of an input of 8 bits and 1 into a list: three nodes, the sum last.
 #[tactic(auto, using(crate::proofs::Kept::kept))]
 fn put_sum(terms: &mut Terms) -> Result<Ref, Memory>
@@ -106,23 +83,36 @@ fn put_sum(terms: &mut Terms) -> Result<Ref, Memory>
     terms.apply(Op::Add, x, one)
 }
 
-/// The word of a sum that came from another list, and stands behind a word there.
+/// The places that a Ref reaches.
+fn places_reached(alloc: Global, terms: &Terms, r: Ref) -> Result<Vec<usize>, Memory>
+    requires { r.index < length terms.now }
+{
+    reached(alloc, terms, &[r])
+}
+
+/// The word of a sum of an input and 1 that came from another list, where the input is this.
 #[tactic(auto, using(crate::proofs::Kept::kept))]
-fn word_of_an_import(alloc: Global, inputs: &Valuation) -> Result<u16, Memory> {
+fn word_of_an_import(alloc: Global, x: u16) -> Result<u16, Memory> {
+    let mut inputs = Valuation::new(alloc);
+    inputs.set(0, 0, x)?;
     let mut other = Terms::new(alloc);
     other.konst(7)?;
     let sum = put_sum(&mut other)?;
     let mut terms = Terms::new(alloc);
     let brought = terms.import(&other, sum)?;
     terms.import(&other, Ref { index: 0 })?;
-    terms.value(inputs, brought)
+    terms.value(&inputs, brought)
 }
 
 #[test]
-fn imports_a_term_of_another_list(rt: HostRuntime) -> Result<(), Fail> {
-    let mut inputs = Valuation::new(rt.alloc());
-    inputs.set(0, 0, 255)?;
-    assert_eq!(rt; word_of_an_import(rt.alloc(), &inputs)?, 256);
+fn gives_terms_their_words(rt: HostRuntime) -> Result<(), Fail> {
+    assert_eq!(rt; word_of_an_input(rt.alloc(), 7, 16)?, 0x1234);
+    assert_eq!(rt; word_of_an_input(rt.alloc(), 7, 4)?, 4);
+    assert_eq!(rt; word_of_an_input(rt.alloc(), 8, 16)?, 0);
+    assert_eq!(rt; word_of_a_choice(rt.alloc(), 1, 9)?, 9);
+    assert_eq!(rt; word_of_a_choice(rt.alloc(), 0, 9)?, 7);
+    assert_eq!(rt; word_of_a_choice(rt.alloc(), 256, 9)?, 7);
+    assert_eq!(rt; word_of_an_import(rt.alloc(), 255)?, 256);
     Ok(())
 }
 
@@ -138,6 +128,10 @@ fn leaves_what_was_copied_as_it_was(rt: HostRuntime) -> Result<(), Fail> {
     assert_eq!(rt; copy.konst(2)?.index, 3);
     assert!(rt; copy != terms);
     assert!(rt; terms == alike);
+    is_shared::<Ref>();
+    is_shared::<Literal>();
+    is_shared::<Terms>();
+    is_shared::<Valuation>();
     Ok(())
 }
 
@@ -152,6 +146,8 @@ fn finds_equal_nodes_again(rt: HostRuntime) -> Result<(), Fail> {
     let mut other = Terms::new(rt.alloc());
     other.konst(5)?;
     let other_sum = put_sum(&mut other)?;
+    let places = places_reached(rt.alloc(), &other, other_sum)?;
+    assert!(rt; places.as_slice() == [1, 2, 3].as_slice());
     let before = terms.copy()?;
     assert_eq!(rt; terms.import(&other, other_sum)?, sum);
     assert!(rt; terms == before);
@@ -177,20 +173,5 @@ fn keeps_the_words_that_are_not_zero_in_order(rt: HostRuntime) -> Result<(), Fai
     assert!(rt; copy != inputs);
     inputs.set(0, 3, 6)?;
     assert!(rt; copy == inputs);
-    Ok(())
-}
-
-#[test]
-fn literals_name_terms(rt: HostRuntime) -> Result<(), Fail> {
-    let literal = Literal {
-        term: Ref::default(),
-        truth: true,
-    };
-    assert!(rt; literal.term.index == 0 && literal.truth);
-    is_shared::<Ref>();
-    is_shared::<Literal>();
-    is_shared::<Node>();
-    is_shared::<Terms>();
-    is_shared::<Valuation>();
     Ok(())
 }
