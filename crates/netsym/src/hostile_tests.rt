@@ -1,13 +1,10 @@
 //! The top call on files that are almost of the form.
 
 use crate::status::Status;
-use crate::top::run_alone;
-use kn_io::{MemSink, MemSource};
+use crate::tests::{NOT_FORM, ends};
 use std::alloc::{AllocError, Global};
 use std::fmt::Write;
 use std::test::Fail;
-
-const COMMAND: [&str; 3] = ["explore", "--mapping", "cob"];
 
 /// A node that sends no word over its first link at boot, and one that does nothing on a packet.
 const PROGRAMS: &str = "version = 1
@@ -39,16 +36,11 @@ dstate 0 columns 0 1
 end states 2 dstates 1 reached 0 open 0
 ";
 
-const REFUSED: &str = "netsym: refused F0 -
+const ALONE_REPORT: &str = "report 1 mapping cob ticks 0 nodes 1
+state 0 node 0 trace - outcome running inputs -
+dstate 0 columns 0
+end states 1 dstates 1 reached 0 open 0
 ";
-
-/// Whether a file ends with this status and text.
-fn ends(alloc: Global, file: &[u8], status: Status, text: &str) -> Result<bool, Fail> {
-    let mut source = MemSource::new(file.to_vec(alloc)?, Vec::new(alloc));
-    let mut sink = MemSink::new(vec![in alloc; 0u8; 4096]?, Vec::new(alloc));
-    let ran = run_alone(alloc, &COMMAND, &mut source, &mut sink);
-    Ok(ran == status && sink.bytes() == text.as_bytes())
-}
 
 /// A link of node 0, with these texts for its numbers.
 fn link(alloc: Global, from: &str, to: &str, delay: &str) -> Result<String, AllocError> {
@@ -85,85 +77,80 @@ fn long_program(alloc: Global, count: u32, boot: &str) -> Result<String, AllocEr
     Ok(text)
 }
 
+/// The file of one link, with a byte at this place that begins no character.
+fn no_text(alloc: Global, place: usize) -> Result<Vec<u8>, AllocError> {
+    let mut bytes = link(alloc, "0", "1", "1")?.into_bytes();
+    if let Some(byte) = bytes.get_mut(place) {
+        *byte = 255;
+    }
+    Ok(bytes)
+}
+
 #[test]
 fn files_at_the_bounds(rt: HostRuntime) -> Result<(), Fail> {
     let alloc = rt.alloc();
     let accepted = vec![in alloc;
-        link(alloc, "0", "1", "1")?,
-        link(alloc, "0", "1", "65535")?,
-        links(alloc, 0)?,
-        links(alloc, 16)?,
+        (link(alloc, "0", "1", "1")?, REPORT),
+        (link(alloc, "0", "1", "65535")?, REPORT),
+        (links(alloc, 0)?, REPORT),
+        (links(alloc, 16)?, REPORT),
+        (long_program(alloc, 4096, "0fff")?, ALONE_REPORT),
     ]?;
-    for (index, file) in accepted.iter().enumerate() {
+    for (index, (file, report)) in accepted.iter().enumerate() {
         assert!(rt;
-            ends(alloc, file.as_bytes(), Status::Clean, REPORT)?,
+            ends(alloc, file.as_bytes(), Status::Clean, report)?,
             "at {index}"
         );
     }
-    let alone = "report 1 mapping cob ticks 0 nodes 1
-state 0 node 0 trace - outcome running inputs -
-dstate 0 columns 0
-end states 1 dstates 1 reached 0 open 0
-";
-    let long = long_program(alloc, 4096, "0fff")?;
-    assert!(rt; ends(alloc, long.as_bytes(), Status::Clean, alone)?);
     Ok(())
+}
+
+/// Files that are not of the form.
+fn refused_files(alloc: Global) -> Result<Vec<Vec<u8>>, AllocError> {
+    let base = link(alloc, "0", "1", "1")?;
+    Ok(vec![in alloc;
+        link(alloc, "0", "0", "1")?.into_bytes(),
+        link(alloc, "0", "2", "1")?.into_bytes(),
+        link(alloc, "2", "1", "1")?.into_bytes(),
+        links(alloc, 17)?.into_bytes(),
+        link(alloc, "0", "1", "0")?.into_bytes(),
+        link(alloc, "0", "1", "65536")?.into_bytes(),
+        link(alloc, "0", "1", "4294967297")?.into_bytes(),
+        link(alloc, "0", "1", "18446744073709551617")?.into_bytes(),
+        link(alloc, "0", "1", "01")?.into_bytes(),
+        link(alloc, "00", "1", "1")?.into_bytes(),
+        link(alloc, "0", "01", "1")?.into_bytes(),
+        link(alloc, "0", "1", "+1")?.into_bytes(),
+        link(alloc, "-0", "1", "1")?.into_bytes(),
+        link(alloc, "0", "1", "0x1")?.into_bytes(),
+        link(alloc, "0", "1", "1_0")?.into_bytes(),
+        link(alloc, "0", "1", "")?.into_bytes(),
+        link(alloc, "0", "1", "1 ")?.into_bytes(),
+        link(alloc, "0", "1", "1\r")?.into_bytes(),
+        link(alloc, "0", "1", "\u{661}")?.into_bytes(),
+        String::from_str(alloc, base.as_str().trim_end())?.into_bytes(),
+        format!(in alloc; "{base}\n")?.into_bytes(),
+        format!(in alloc; "\u{feff}{base}")?.into_bytes(),
+        format!(in alloc; "{PROGRAMS}{LINK}{NODES}")?.into_bytes(),
+        nodes(alloc, 65)?.into_bytes(),
+        long_program(alloc, 4097, "0000")?.into_bytes(),
+        long_program(alloc, 1, "0001")?.into_bytes(),
+        long_program(alloc, 0, "ffff")?.into_bytes(),
+        no_text(alloc, 0)?,
+        no_text(alloc, 11)?,
+        no_text(alloc, 40)?,
+        no_text(alloc, 100)?,
+    ]?)
 }
 
 #[test]
 fn files_past_the_bounds(rt: HostRuntime) -> Result<(), Fail> {
-    let alloc = rt.alloc();
-    let base = link(alloc, "0", "1", "1")?;
-    let refused = vec![in alloc;
-        link(alloc, "0", "0", "1")?,
-        link(alloc, "0", "2", "1")?,
-        link(alloc, "2", "1", "1")?,
-        links(alloc, 17)?,
-        link(alloc, "0", "1", "0")?,
-        link(alloc, "0", "1", "65536")?,
-        link(alloc, "0", "1", "4294967297")?,
-        link(alloc, "0", "1", "18446744073709551617")?,
-        link(alloc, "0", "1", "01")?,
-        link(alloc, "00", "1", "1")?,
-        link(alloc, "0", "01", "1")?,
-        link(alloc, "0", "1", "+1")?,
-        link(alloc, "-0", "1", "1")?,
-        link(alloc, "0", "1", "0x1")?,
-        link(alloc, "0", "1", "1_0")?,
-        link(alloc, "0", "1", "")?,
-        link(alloc, "0", "1", "1 ")?,
-        link(alloc, "0", "1", "1\r")?,
-        link(alloc, "0", "1", "\u{661}")?,
-        String::from_str(alloc, base.as_str().trim_end())?,
-        format!(in alloc; "{base}\n")?,
-        format!(in alloc; "\u{feff}{base}")?,
-        format!(in alloc; "{PROGRAMS}{LINK}{NODES}")?,
-        nodes(alloc, 65)?,
-        long_program(alloc, 4097, "0000")?,
-        long_program(alloc, 1, "0001")?,
-        long_program(alloc, 0, "ffff")?,
-    ]?;
-    for (index, file) in refused.iter().enumerate() {
+    let files = refused_files(rt.alloc())?;
+    assert_eq!(rt; files.len(), 31);
+    for (index, file) in files.iter().enumerate() {
         assert!(rt;
-            ends(alloc, file.as_bytes(), Status::Refused, REFUSED)?,
+            ends(rt.alloc(), file, Status::Refused, NOT_FORM)?,
             "at {index}"
-        );
-    }
-    Ok(())
-}
-
-#[test]
-fn bytes_that_are_no_text(rt: HostRuntime) -> Result<(), Fail> {
-    let alloc = rt.alloc();
-    let base = link(alloc, "0", "1", "1")?;
-    for place in [0, 11, 40, 100] {
-        let mut bytes = base.as_bytes().to_vec(alloc)?;
-        if let Some(byte) = bytes.get_mut(place) {
-            *byte = 255;
-        }
-        assert!(rt;
-            ends(alloc, &bytes, Status::Refused, REFUSED)?,
-            "at {place}"
         );
     }
     Ok(())

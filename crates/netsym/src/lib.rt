@@ -17,6 +17,6 @@ pub use top::{run_alone, words_ok};
 #[cfg(test)]
 mod hostile_tests;
 #[cfg(test)]
-mod packet_tests;
+mod rows;
 #[cfg(test)]
 mod tests;

@@ -6,9 +6,9 @@ ghost use Rattle.netsym.specs.Statuses.{code_of};
 /// How a call of the program ends; the numbers are the process's exit status.
 #[derive(Clone, Copy, Debug, PartialEq, Eq)]
 pub enum Status {
-    /// 0: the report was printed, and no failure is reached.
+    /// 0: the report was printed, no failure is reached, and nothing is left open.
     Clean,
-    /// 1: the report was printed, and a failure is reached.
+    /// 1: the report was printed, a failure is reached, and nothing is left open.
     Found,
     /// 2: the words are no command.
     Usage,

@@ -1,110 +1,29 @@
 //! The top call on worked files, over a source and a sink in memory.
 
+use crate::rows::{HALF_REPORT, HALVES, HALVES_REPORT, ROWS};
 use crate::status::Status;
 use crate::top::run_alone;
 use kn_io::{MemSink, MemSource};
 use std::alloc::Global;
+use std::fmt::Write;
 use std::test::Fail;
 
-const COMMAND: [&str; 3] = ["explore", "--mapping", "cob"];
+pub const COMMAND: [&str; 3] = ["explore", "--mapping", "cob"];
 
-/// Two nodes that take an input of one bit and branch on it.
-const HALVES: &str = "version = 1
-ticks = 1
-[[program]]
-name = \"half\"
-code = \"00030000ffffffffffffffffffffffffffffffffffff0a0000000001000009000000000200002300000000000000\"
-[[node]]
-program = \"half\"
-[[node]]
-program = \"half\"
-";
-
-const HALVES_REPORT: &str = "report 1 mapping cob ticks 1 nodes 2
-state 0 node 0 trace 0 outcome running inputs 0.0=1
-state 1 node 1 trace 0 outcome running inputs 1.0=1
-state 2 node 0 trace 0 outcome running inputs 0.0=1
-state 3 node 1 trace 1 outcome running inputs -
-state 4 node 0 trace 1 outcome running inputs -
-state 5 node 1 trace 0 outcome running inputs 1.0=1
-state 6 node 0 trace 1 outcome running inputs -
-state 7 node 1 trace 1 outcome running inputs -
-dstate 0 columns 0 1
-dstate 1 columns 2 3
-dstate 2 columns 4 5
-dstate 3 columns 6 7
-end states 8 dstates 4 reached 0 open 0
-";
-
-/// The same file with one node.
-const HALF_REPORT: &str = "report 1 mapping cob ticks 1 nodes 1
-state 0 node 0 trace 0 outcome running inputs 0.0=1
-state 1 node 0 trace 1 outcome running inputs -
-dstate 0 columns 0
-dstate 1 columns 1
-end states 2 dstates 2 reached 0 open 0
-";
-
-/// One node that fails where its input is 0, and else halts.
-const CAREFUL: &str = "version = 1
-ticks = 1
-[[program]]
-name = \"careful\"
-code = \"00030000ffffffffffffffffffffffffffffffffffff0a0000000001000020000000000000002400000000000000\"
-[[node]]
-program = \"careful\"
-";
-
-const CAREFUL_REPORT: &str = "report 1 mapping cob ticks 1 nodes 1
-state 0 node 0 trace 0 outcome halted inputs 0.0=1
-state 1 node 0 trace 1 outcome assert@1@0 inputs -
-dstate 0 columns 0
-dstate 1 columns 1
-failure 1 reached dstate 1 pick 1 inputs -
-end states 2 dstates 2 reached 1 open 0
-";
-
-/// A node that asserts the constant 0, and one that goes on.
-const CONSTANT: &str = "version = 1
-ticks = 1
-[[program]]
-name = \"half\"
-code = \"00030000ffffffffffffffffffffffffffffffffffff0a0000000001000009000000000200002300000000000000\"
-[[program]]
-name = \"never\"
-code = \"00020000ffffffffffffffffffffffffffffffffffff20000000000000002400000000000000\"
-[[node]]
-program = \"never\"
-[[node]]
-program = \"half\"
-";
-
-const CONSTANT_REPORT: &str = "report 1 mapping cob ticks 1 nodes 2
-state 0 node 0 trace 1 outcome assert@0@0 inputs -
-state 1 node 1 trace 0 outcome running inputs 1.0=1
-state 2 node 0 trace 1 outcome assert@0@0 inputs -
-state 3 node 1 trace 1 outcome running inputs -
-dstate 0 columns 0 1
-dstate 1 columns 2 3
-failure 0 reached dstate 0 pick 0 1 inputs 1.0=1
-failure 2 reached dstate 1 pick 2 3 inputs -
-end states 4 dstates 2 reached 2 open 0
-";
-
-const NO_TICKS_REPORT: &str = "report 1 mapping cob ticks 0 nodes 2
-state 0 node 0 trace - outcome running inputs -
-state 1 node 1 trace - outcome running inputs -
-dstate 0 columns 0 1
-end states 2 dstates 1 reached 0 open 0
-";
-
-const NOT_FORM: &[u8] = b"netsym: refused F0 -\n";
+pub const NOT_FORM: &str = "netsym: refused F0 -\n";
 
 /// The status of a call, and what it wrote.
 #[derive(Debug, Drop)]
 struct Ran {
     status: Status,
     text: Vec<u8>,
+}
+
+impl Ran {
+    /// Whether the call ended with this status and text.
+    fn is(&self, status: Status, text: &str) -> bool {
+        self.status == status && self.text.as_slice() == text.as_bytes()
+    }
 }
 
 /// Calls the program on a file; of the source and of the sink the calls with these numbers fail.
@@ -124,58 +43,47 @@ fn call_on(
     })
 }
 
+/// Whether a file ends with this status and text, where no read and no write fails.
+pub fn ends(alloc: Global, file: &[u8], status: Status, text: &str) -> Result<bool, Fail> {
+    Ok(call_on(alloc, &COMMAND, file, &[], &[])?.is(status, text))
+}
+
 #[test]
 fn worked_files(rt: HostRuntime) -> Result<(), Fail> {
-    let rows = [
-        (HALVES, HALVES_REPORT, Status::Clean),
-        (CAREFUL, CAREFUL_REPORT, Status::Found),
-        (CONSTANT, CONSTANT_REPORT, Status::Found),
-    ];
-    for (file, report, status) in rows {
-        let ran = call_on(rt.alloc(), &COMMAND, file.as_bytes(), &[], &[])?;
-        assert_eq!(rt; ran.status, status);
-        assert_eq!(rt; ran.text.as_slice(), report.as_bytes());
+    for (name, file, (from, to), status, text) in ROWS {
+        let file = file.replace(rt.alloc(), from, to)?;
+        assert!(rt; ends(rt.alloc(), file.as_bytes(), status, text)?, "{name}");
     }
     Ok(())
 }
 
 #[test]
-fn no_ticks_and_upper_case(rt: HostRuntime) -> Result<(), Fail> {
-    let file = HALVES.replace(rt.alloc(), "ticks = 1", "ticks = 0")?;
-    let still = call_on(rt.alloc(), &COMMAND, file.as_bytes(), &[], &[])?;
-    assert_eq!(rt; still.status, Status::Clean);
-    assert_eq!(rt; still.text.as_slice(), NO_TICKS_REPORT.as_bytes());
-    let file = HALVES.replace(rt.alloc(), "ffff", "FFFF")?;
-    let upper = call_on(rt.alloc(), &COMMAND, file.as_bytes(), &[], &[])?;
-    assert_eq!(rt; upper.status, Status::Clean);
-    assert_eq!(rt; upper.text.as_slice(), HALVES_REPORT.as_bytes());
-    Ok(())
-}
-
-#[test]
-fn other_words_and_no_file(rt: HostRuntime) -> Result<(), Fail> {
-    let usage = call_on(rt.alloc(), &[], HALVES.as_bytes(), &[0], &[])?;
-    assert_eq!(rt; usage.status, Status::Usage);
-    assert_eq!(rt;
-        usage.text.as_slice(),
-        b"netsym: not a command line\n".as_slice()
-    );
-    let empty = call_on(rt.alloc(), &COMMAND, &[], &[], &[])?;
-    assert_eq!(rt; empty.status, Status::Refused);
-    assert_eq!(rt; empty.text.as_slice(), NOT_FORM);
+fn calls_that_end_early(rt: HostRuntime) -> Result<(), Fail> {
     let long = vec![in rt.alloc(); 32u8; 1_048_577]?;
-    let long = call_on(rt.alloc(), &COMMAND, &long, &[], &[])?;
-    assert_eq!(rt; long.status, Status::Refused);
-    assert_eq!(rt; long.text.as_slice(), b"netsym: refused F1 -\n".as_slice());
-    Ok(())
-}
-
-#[test]
-fn each_read_fails(rt: HostRuntime) -> Result<(), Fail> {
-    for call in 0..2u64 {
-        let ran = call_on(rt.alloc(), &COMMAND, HALVES.as_bytes(), &[call], &[])?;
-        assert_eq!(rt; ran.status, Status::ReadFault);
-        assert_eq!(rt; ran.text.as_slice(), b"netsym: read fault\n".as_slice());
+    let halves = HALVES.as_bytes();
+    let fault = "netsym: read fault\n";
+    let rows = [
+        (
+            &[] as &[&str],
+            halves,
+            &[0u64] as &[u64],
+            Status::Usage,
+            "netsym: not a command line\n",
+        ),
+        (&COMMAND, b"", &[], Status::Refused, NOT_FORM),
+        (
+            &COMMAND,
+            &long,
+            &[],
+            Status::Refused,
+            "netsym: refused F1 -\n",
+        ),
+        (&COMMAND, halves, &[0], Status::ReadFault, fault),
+        (&COMMAND, halves, &[1], Status::ReadFault, fault),
+    ];
+    for (index, (words, file, reads, status, text)) in rows.into_iter().enumerate() {
+        let ran = call_on(rt.alloc(), words, file, reads, &[])?;
+        assert!(rt; ran.is(status, text), "row {index}");
     }
     Ok(())
 }
@@ -185,8 +93,8 @@ fn each_write_fails(rt: HostRuntime) -> Result<(), Fail> {
     let mut whole = 0;
     for (call, line) in HALVES_REPORT.split_inclusive('\n').enumerate() {
         let ran = call_on(rt.alloc(), &COMMAND, HALVES.as_bytes(), &[], &[call as u64])?;
-        assert_eq!(rt; ran.status, Status::WriteFault);
-        assert_eq!(rt; ran.text.len(), whole);
+        assert_eq!(rt; ran.status, Status::WriteFault, "call {call}");
+        assert_eq!(rt; ran.text.len(), whole, "call {call}");
         assert!(rt; HALVES_REPORT.as_bytes().starts_with(&ran.text));
         whole += line.len();
     }
@@ -199,14 +107,82 @@ fn each_front_of_a_file(rt: HostRuntime) -> Result<(), Fail> {
     let file = HALVES.as_bytes();
     let one_node = file.len() - "[[node]]\nprogram = \"half\"\n".len();
     for length in 0..file.len() {
-        let ran = call_on(rt.alloc(), &COMMAND, &file[..length], &[], &[])?;
-        if length == one_node {
-            assert_eq!(rt; ran.status, Status::Clean);
-            assert_eq!(rt; ran.text.as_slice(), HALF_REPORT.as_bytes());
+        let (status, text) = if length == one_node {
+            (Status::Clean, HALF_REPORT)
         } else {
-            assert_eq!(rt; ran.status, Status::Refused);
-            assert_eq!(rt; ran.text.as_slice(), NOT_FORM);
-        }
+            (Status::Refused, NOT_FORM)
+        };
+        assert!(rt;
+            ends(rt.alloc(), &file[..length], status, text)?,
+            "front of {length}"
+        );
+    }
+    Ok(())
+}
+
+/// A program that makes so many inputs of one bit and branches on each, at boot.
+fn branching(alloc: Global, count: u16) -> Result<String, Fail> {
+    let mut code = format!(in alloc;
+        "{:04x}0000ffffffffffffffffffffffffffffffffffff",
+        2 * u32::from(count) + 1
+    )?;
+    for index in 0..count {
+        let next = 2 * u32::from(index) + 2;
+        write!(code, "0a00000000010000090000000{next:03x}0000")?;
+    }
+    code.push_str("2300000000000000")?;
+    Ok(code)
+}
+
+/// A file of one tick with one program, and so many nodes that run it.
+fn alike_nodes(alloc: Global, code: &str, nodes: u32) -> Result<String, Fail> {
+    let mut text = format!(in alloc;
+        "version = 1\nticks = 1\n[[program]]\nname = \"p\"\ncode = \"{code}\"\n"
+    )?;
+    for _ in 0..nodes {
+        text.push_str("[[node]]\nprogram = \"p\"\n")?;
+    }
+    Ok(text)
+}
+
+/// The status on a file, and whether the text ends so.
+fn ends_with(alloc: Global, file: &str, end: &str) -> Result<(Status, bool), Fail> {
+    let mut source = MemSource::new(file.as_bytes().to_vec(alloc)?, Vec::new(alloc));
+    let mut sink = MemSink::new(vec![in alloc; 0u8; 2_000_000]?, Vec::new(alloc));
+    let status = run_alone(alloc, &COMMAND, &mut source, &mut sink);
+    Ok((status, sink.bytes().ends_with(end.as_bytes())))
+}
+
+/// 12 branches in one event are 4,096 paths, as many as are allowed; with one more they are too many. Two nodes with six
+/// branches each have 4,096 scenarios, as many as are allowed; with a third node they are too many.
+#[test]
+fn paths_and_scenarios_up_to_the_limits(rt: HostRuntime) -> Result<(), Fail> {
+    let alloc = rt.alloc();
+    let six = branching(alloc, 6)?;
+    let one = branching(alloc, 1)?;
+    let three = format!(in alloc;
+        "version = 1\nticks = 1\n[[program]]\nname = \"p\"\ncode = \"{six}\"\n[[program]]\nname = \"q\"\ncode = \"{one}\"\n[[node]]\nprogram = \"p\"\n[[node]]\nprogram = \"p\"\n[[node]]\nprogram = \"q\"\n"
+    )?;
+    let rows = vec![in alloc;
+        (
+            alike_nodes(alloc, &branching(alloc, 12)?, 1)?,
+            Status::Clean,
+            "\nend states 4096 dstates 4096 reached 0 open 0\n"
+        ),
+        (
+            alike_nodes(alloc, &branching(alloc, 13)?, 1)?,
+            Status::Limit,
+            "netsym: limit states tick 0\n"
+        ),
+        (
+            alike_nodes(alloc, &six, 2)?,
+            Status::Clean,
+            "\nend states 8192 dstates 4096 reached 0 open 0\n"
+        ),
+        (three, Status::Limit, "netsym: limit dstates tick 0\n"),
+    ]?;
+    for (file, status, end) in &rows {
+        assert!(rt; ends_with(alloc, file, end)? == (*status, true), "{end}");
     }
     Ok(())
 }

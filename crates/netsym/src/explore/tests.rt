@@ -103,15 +103,7 @@ fn what_is_impossible_is_left_out(rt: HostRuntime) -> Result<(), Fail> {
     assert_eq!(rt; scenarios.len(), 2);
     for (scenario, (first, second)) in scenarios.iter().zip([("00", "0"), ("11", "0")]) {
         assert!(rt; are_traces(scenario, first, second)?);
-    }
-    Ok(())
-}
-
-#[test]
-fn a_condition_says_nothing_twice(rt: HostRuntime) -> Result<(), Fail> {
-    let alloc = rt.alloc();
-    for scenario in &scenarios_of(alloc, ASKED_TWICE)? {
-        assert_eq!(rt; scenario.len(), 2);
+        // A condition says nothing twice.
         assert_eq!(rt; scenario.state(0).own().len(), 1);
         assert_eq!(rt; scenario.state(1).own().len(), 0);
     }
@@ -121,7 +113,9 @@ fn a_condition_says_nothing_twice(rt: HostRuntime) -> Result<(), Fail> {
 #[test]
 fn a_packet_waits_for_its_tick(rt: HostRuntime) -> Result<(), Fail> {
     let alloc = rt.alloc();
-    for copy in copies_of(alloc, SENT_THEN_DECIDED, 1)? {
+    let sent = copies_of(alloc, SENT_THEN_DECIDED, 1)?;
+    assert_eq!(rt; sent.len(), 2);
+    for copy in sent {
         let scenario = copy.into_scenario();
         assert_eq!(rt; scenario.len(), 2);
         assert_eq!(rt; scenario.state(0).sent(), 1);
@@ -135,7 +129,9 @@ fn a_packet_waits_for_its_tick(rt: HostRuntime) -> Result<(), Fail> {
             assert!(rt; mail.word(0) == Value::Input { node: 0, index: 0 });
         }
     }
-    for copy in copies_of(alloc, SENT_THEN_DECIDED, 2)? {
+    let arrived = copies_of(alloc, SENT_THEN_DECIDED, 2)?;
+    assert_eq!(rt; arrived.len(), 2);
+    for copy in arrived {
         let scenario = copy.into_scenario();
         assert_eq!(rt; scenario.len(), 2);
         assert_eq!(rt; scenario.state(1).queue().len(), 0);

@@ -69,7 +69,7 @@ fn answer(alloc: Global, text: &str) -> char {
 }
 
 #[test]
-fn two_nodes_of_one_program_are_read(rt: HostRuntime) -> Result<(), Fail> {
+fn programs_links_and_limits_are_read(rt: HostRuntime) -> Result<(), Fail> {
     let alloc = rt.alloc();
     for code in [HALF, HALF_UPPER] {
         let text = file(alloc, "1", "half", code, 2, "")?;
@@ -84,22 +84,36 @@ fn two_nodes_of_one_program_are_read(rt: HostRuntime) -> Result<(), Fail> {
         assert_eq!(rt; program.boot(), Some(0));
     }
     one_network();
-    Ok(())
-}
-
-#[test]
-fn links_are_read_in_their_order(rt: HostRuntime) -> Result<(), Fail> {
-    let alloc = rt.alloc();
     let lines = "[[link]]\nfrom = 1\nto = 0\ndelay = 65535\n\
                  [[link]]\nfrom = 0\nto = 1\ndelay = 1\n\
                  [[link]]\nfrom = 1\nto = 0\ndelay = 20\n";
     let text = file(alloc, "4096", "halt", HALT, 2, lines)?;
     let net = read_form(alloc, text.as_bytes())?;
-    let wanted = [(1, 0, 65_535), (0, 1, 1), (1, 0, 20)];
     assert_eq!(rt; net.links.len(), 3);
-    for (link, (from, to, delay)) in net.links.iter().zip(wanted) {
-        assert!(rt; *link == Link { from, to, delay });
-    }
+    assert!(rt;
+        net.links[0]
+            == Link {
+                from: 1,
+                to: 0,
+                delay: 65_535
+            }
+    );
+    assert!(rt;
+        net.links[1]
+            == Link {
+                from: 0,
+                to: 1,
+                delay: 1
+            }
+    );
+    assert!(rt;
+        net.links[2]
+            == Link {
+                from: 1,
+                to: 0,
+                delay: 20
+            }
+    );
     let limits = Limits {
         ticks: 4096,
         fuel: 512,
@@ -111,33 +125,28 @@ fn links_are_read_in_their_order(rt: HostRuntime) -> Result<(), Fail> {
     Ok(())
 }
 
-#[test]
-fn files_up_to_the_limits_are_read(rt: HostRuntime) -> Result<(), Fail> {
-    let alloc = rt.alloc();
+/// Files up to the limits.
+fn files_up_to_the_limits(alloc: Global) -> Result<Vec<String>, AllocError> {
     let mut links = String::new(alloc);
     for node in 0..64u32 {
         let some = links_from(alloc, node, 16)?;
         links.push_str(&some)?;
     }
-    let texts = vec![in alloc;
+    Ok(vec![in alloc;
         file(alloc, "0", "half", HALF, 64, "")?,
         file(alloc, "9", "Half_of-2", HALT, 1, "")?,
         file(alloc, "10", "loop", LOOP, 1, "")?,
         file(alloc, "4096", "recv", HALT_AT_RECV, 64, &links)?,
-    ]?;
-    for (index, text) in texts.iter().enumerate() {
-        assert_eq!(rt; answer(alloc, text), 'y', "at {index}");
-    }
-    Ok(())
+        pair(alloc, &links_from(alloc, 0, 16)?)?,
+    ]?)
 }
 
-#[test]
-fn other_files_are_refused(rt: HostRuntime) -> Result<(), Fail> {
-    let alloc = rt.alloc();
+/// Files that are not of the form as a whole.
+fn other_files(alloc: Global) -> Result<Vec<String>, AllocError> {
     let program = format!(in alloc; "[[program]]\nname = \"half\"\ncode = \"{HALF}\"\n")?;
     let node = "[[node]]\nprogram = \"half\"\n";
     let start = "version = 1\nticks = 1\n";
-    let texts = vec![in alloc;
+    Ok(vec![in alloc;
         String::new(alloc),
         format!(in alloc; "{start}{program}[[node]]\nprogram = \"half\"")?,
         format!(in alloc; "version = 1\r\nticks = 1\n{program}{node}")?,
@@ -158,78 +167,55 @@ fn other_files_are_refused(rt: HostRuntime) -> Result<(), Fail> {
         file(alloc, "1", "half", "0g", 1, "")?,
         file(alloc, "1", "half", &HALF[1..], 1, "")?,
         file(alloc, "1", "half", HALT, 65, "")?,
-    ]?;
-    for (index, text) in texts.iter().enumerate() {
-        assert_eq!(rt; answer(alloc, text), 'n', "at {index}");
-    }
-    Ok(())
+        pair(alloc, &links_from(alloc, 0, 17)?)?,
+    ]?)
 }
 
-#[test]
-fn other_numbers_are_refused(rt: HostRuntime) -> Result<(), Fail> {
-    let alloc = rt.alloc();
-    let numbers = [
-        "4097",
-        "01",
-        "00",
-        "+1",
-        "-1",
-        "",
-        " 1",
-        "1 ",
-        "1.0",
-        "1_0",
-        "0x1",
-        "a",
-        "65536",
-        "100001",
-        "4294967297",
-        "18446744073709551617",
-        "\u{e4}",
-        "\u{661}",
-    ];
-    for ticks in numbers {
-        let text = file(alloc, ticks, "halt", HALT, 2, "")?;
-        assert_eq!(rt; answer(alloc, &text), 'n', "at {ticks}");
-    }
-    Ok(())
-}
+/// Texts that are no number of ticks.
+const OTHER_NUMBERS: [&str; 18] = [
+    "4097",
+    "01",
+    "00",
+    "+1",
+    "-1",
+    "",
+    " 1",
+    "1 ",
+    "1.0",
+    "1_0",
+    "0x1",
+    "a",
+    "65536",
+    "100001",
+    "4294967297",
+    "18446744073709551617",
+    "\u{e4}",
+    "\u{661}",
+];
 
-#[test]
-fn other_links_are_refused(rt: HostRuntime) -> Result<(), Fail> {
-    let alloc = rt.alloc();
-    let many = links_from(alloc, 0, 17)?;
-    let links = [
-        "[[link]]\nfrom = 0\nto = 0\ndelay = 1\n",
-        "[[link]]\nfrom = 1\nto = 1\ndelay = 1\n",
-        "[[link]]\nfrom = 0\nto = 2\ndelay = 1\n",
-        "[[link]]\nfrom = 2\nto = 0\ndelay = 1\n",
-        "[[link]]\nfrom = 0\nto = 1\ndelay = 0\n",
-        "[[link]]\nfrom = 0\nto = 1\ndelay = 65536\n",
-        "[[link]]\nfrom = 0\nto = 1\ndelay = 01\n",
-        "[[link]]\nfrom = 0\nto = 01\ndelay = 1\n",
-        "[[link]]\nfrom = 00\nto = 1\ndelay = 1\n",
-        "[[link]]\nfrom = -0\nto = 1\ndelay = 1\n",
-        "[[link]]\nfrom = 4294967296\nto = 1\ndelay = 1\n",
-        "[[link]]\nfrom = 0\nto = 18446744073709551617\ndelay = 1\n",
-        "[[link]]\nto = 1\nfrom = 0\ndelay = 1\n",
-        "[[link]]\nfrom = 0\ndelay = 1\nto = 1\n",
-        "[[link]]\nfrom = 0\nto = 1\n",
-        "[[link]]\nfrom = 0\nto = 1\ndelay = 1",
-        "[[link]]\nfrom = 0\nto = 1\ndelay = 1\r\n",
-        "[[link]]\nfrom = 0\nto = 1\ndelay = 1\n\n",
-        "[[link]]\nfrom = 0\nto = 1\ndelay = 1\n[[node]]\nprogram = \"halt\"\n",
-        "[[link]]\nfrom = \"0\"\nto = 1\ndelay = 1\n",
-        many.as_str(),
-    ];
-    for (index, lines) in links.iter().enumerate() {
-        let text = pair(alloc, lines)?;
-        assert_eq!(rt; answer(alloc, &text), 'n', "at {index}");
-    }
-    let text = pair(alloc, &links_from(alloc, 0, 16)?)?;
-    assert_eq!(rt; answer(alloc, &text), 'y');
-    Ok(())
-}
+/// Lines that are no link between two nodes.
+const OTHER_LINKS: [&str; 20] = [
+    "[[link]]\nfrom = 0\nto = 0\ndelay = 1\n",
+    "[[link]]\nfrom = 1\nto = 1\ndelay = 1\n",
+    "[[link]]\nfrom = 0\nto = 2\ndelay = 1\n",
+    "[[link]]\nfrom = 2\nto = 0\ndelay = 1\n",
+    "[[link]]\nfrom = 0\nto = 1\ndelay = 0\n",
+    "[[link]]\nfrom = 0\nto = 1\ndelay = 65536\n",
+    "[[link]]\nfrom = 0\nto = 1\ndelay = 01\n",
+    "[[link]]\nfrom = 0\nto = 01\ndelay = 1\n",
+    "[[link]]\nfrom = 00\nto = 1\ndelay = 1\n",
+    "[[link]]\nfrom = -0\nto = 1\ndelay = 1\n",
+    "[[link]]\nfrom = 4294967296\nto = 1\ndelay = 1\n",
+    "[[link]]\nfrom = 0\nto = 18446744073709551617\ndelay = 1\n",
+    "[[link]]\nto = 1\nfrom = 0\ndelay = 1\n",
+    "[[link]]\nfrom = 0\ndelay = 1\nto = 1\n",
+    "[[link]]\nfrom = 0\nto = 1\n",
+    "[[link]]\nfrom = 0\nto = 1\ndelay = 1",
+    "[[link]]\nfrom = 0\nto = 1\ndelay = 1\r\n",
+    "[[link]]\nfrom = 0\nto = 1\ndelay = 1\n\n",
+    "[[link]]\nfrom = 0\nto = 1\ndelay = 1\n[[node]]\nprogram = \"halt\"\n",
+    "[[link]]\nfrom = \"0\"\nto = 1\ndelay = 1\n",
+];
 
 /// A file of one node, whose program has this instruction and then `halt`.
 fn running(alloc: Global, row: &str) -> Result<String, AllocError> {
@@ -239,31 +225,83 @@ fn running(alloc: Global, row: &str) -> Result<String, AllocError> {
     file(alloc, "1", "one", &code, 1, "")
 }
 
-#[test]
-fn instructions_that_do_not_run_yet_are_refused(rt: HostRuntime) -> Result<(), Fail> {
-    let alloc = rt.alloc();
-    for row in [
-        "0200000000000000",
-        "0a00000000010000",
-        "0d00000000000000",
-        "2200000000000000",
-    ] {
-        assert_eq!(rt; answer(alloc, &running(alloc, row)?), 'y', "row {row}");
+/// Instructions that run.
+const RUNNING: [&str; 4] = [
+    "0200000000000000",
+    "0a00000000010000",
+    "0d00000000000000",
+    "2200000000000000",
+];
+
+/// Instructions that do not run yet.
+const NOT_YET: [&str; 11] = [
+    "0300000000000000",
+    "0400000000000000",
+    "0500000000000000",
+    "0600000000000001",
+    "0700000000000001",
+    "0a00000000020000",
+    "0a00000000100000",
+    "1000000000000000",
+    "1900000000000000",
+    "1d00000000000000",
+    "2500000000000000",
+];
+
+/// Files with these texts for their ticks.
+fn files_of_ticks(alloc: Global, numbers: &[&str]) -> Result<Vec<String>, AllocError> {
+    let mut files = Vec::new(alloc);
+    for ticks in numbers {
+        files.push(file(alloc, ticks, "halt", HALT, 2, "")?)?;
     }
-    for row in [
-        "0300000000000000",
-        "0400000000000000",
-        "0500000000000000",
-        "0600000000000001",
-        "0700000000000001",
-        "0a00000000020000",
-        "0a00000000100000",
-        "1000000000000000",
-        "1900000000000000",
-        "1d00000000000000",
-        "2500000000000000",
-    ] {
-        assert_eq!(rt; answer(alloc, &running(alloc, row)?), 'n', "row {row}");
+    Ok(files)
+}
+
+/// Files of two nodes with these lines behind them.
+fn files_of_links(alloc: Global, links: &[&str]) -> Result<Vec<String>, AllocError> {
+    let mut files = Vec::new(alloc);
+    for lines in links {
+        files.push(pair(alloc, lines)?)?;
+    }
+    Ok(files)
+}
+
+/// Files of one node that runs one of these instructions.
+fn files_of_instructions(alloc: Global, rows: &[&str]) -> Result<Vec<String>, AllocError> {
+    let mut files = Vec::new(alloc);
+    for row in rows {
+        files.push(running(alloc, row)?)?;
+    }
+    Ok(files)
+}
+
+/// The place of the first of these files that is answered otherwise.
+fn first_other(alloc: Global, files: &[String], wanted: char) -> Option<usize> {
+    for (place, file) in files.iter().enumerate() {
+        if answer(alloc, file) != wanted {
+            return Some(place);
+        }
+    }
+    None
+}
+
+#[test]
+fn files_are_read_or_refused(rt: HostRuntime) -> Result<(), Fail> {
+    let alloc = rt.alloc();
+    let rows = vec![in alloc;
+        ("limits", files_up_to_the_limits(alloc)?, 'y'),
+        ("files", other_files(alloc)?, 'n'),
+        ("ticks", files_of_ticks(alloc, &OTHER_NUMBERS)?, 'n'),
+        ("links", files_of_links(alloc, &OTHER_LINKS)?, 'n'),
+        ("instructions", files_of_instructions(alloc, &RUNNING)?, 'y'),
+        (
+            "later instructions",
+            files_of_instructions(alloc, &NOT_YET)?,
+            'n'
+        ),
+    ]?;
+    for (name, files, wanted) in &rows {
+        assert_eq!(rt; first_other(alloc, files, *wanted), None, "of the {name}");
     }
     Ok(())
 }

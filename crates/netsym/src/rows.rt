@@ -1,31 +1,108 @@
-//! The top call on networks with ticks, timers, links and packets.
+//! Worked files, with the status and the text with which a call on each ends.
 
 use crate::status::Status;
-use crate::top::run_alone;
-use kn_io::{MemSink, MemSource};
-use std::alloc::Global;
-use std::fmt::Write;
-use std::test::Fail;
 
-const COMMAND: [&str; 3] = ["explore", "--mapping", "cob"];
+/// A name, a file, what is written in it in place of what, and the status and the text of the call.
+pub type Row = (
+    &'static str,
+    &'static str,
+    (&'static str, &'static str),
+    Status,
+    &'static str,
+);
 
-/// The status of a call, and what it wrote.
-#[derive(Debug, Drop)]
-struct Ran {
-    status: Status,
-    text: Vec<u8>,
-}
+/// Nothing in the file is written anew.
+const AS_IT_STANDS: (&str, &str) = ("ticks", "ticks");
 
-/// Calls the program on a file; no read and no write fails.
-fn call_on(alloc: Global, file: &[u8]) -> Result<Ran, Fail> {
-    let mut source = MemSource::new(file.to_vec(alloc)?, Vec::new(alloc));
-    let mut sink = MemSink::new(vec![in alloc; 0u8; 4096]?, Vec::new(alloc));
-    let status = run_alone(alloc, &COMMAND, &mut source, &mut sink);
-    Ok(Ran {
-        status,
-        text: sink.bytes().to_vec(alloc)?,
-    })
-}
+/// Two nodes that take an input of one bit and branch on it.
+pub const HALVES: &str = "version = 1
+ticks = 1
+[[program]]
+name = \"half\"
+code = \"00030000ffffffffffffffffffffffffffffffffffff0a0000000001000009000000000200002300000000000000\"
+[[node]]
+program = \"half\"
+[[node]]
+program = \"half\"
+";
+
+pub const HALVES_REPORT: &str = "report 1 mapping cob ticks 1 nodes 2
+state 0 node 0 trace 0 outcome running inputs 0.0=1
+state 1 node 1 trace 0 outcome running inputs 1.0=1
+state 2 node 0 trace 0 outcome running inputs 0.0=1
+state 3 node 1 trace 1 outcome running inputs -
+state 4 node 0 trace 1 outcome running inputs -
+state 5 node 1 trace 0 outcome running inputs 1.0=1
+state 6 node 0 trace 1 outcome running inputs -
+state 7 node 1 trace 1 outcome running inputs -
+dstate 0 columns 0 1
+dstate 1 columns 2 3
+dstate 2 columns 4 5
+dstate 3 columns 6 7
+end states 8 dstates 4 reached 0 open 0
+";
+
+/// The same file with one node.
+pub const HALF_REPORT: &str = "report 1 mapping cob ticks 1 nodes 1
+state 0 node 0 trace 0 outcome running inputs 0.0=1
+state 1 node 0 trace 1 outcome running inputs -
+dstate 0 columns 0
+dstate 1 columns 1
+end states 2 dstates 2 reached 0 open 0
+";
+
+/// One node that fails where its input is 0, and else halts.
+const CAREFUL: &str = "version = 1
+ticks = 1
+[[program]]
+name = \"careful\"
+code = \"00030000ffffffffffffffffffffffffffffffffffff0a0000000001000020000000000000002400000000000000\"
+[[node]]
+program = \"careful\"
+";
+
+const CAREFUL_REPORT: &str = "report 1 mapping cob ticks 1 nodes 1
+state 0 node 0 trace 0 outcome halted inputs 0.0=1
+state 1 node 0 trace 1 outcome assert@1@0 inputs -
+dstate 0 columns 0
+dstate 1 columns 1
+failure 1 reached dstate 1 pick 1 inputs -
+end states 2 dstates 2 reached 1 open 0
+";
+
+/// A node that asserts the constant 0, and one that goes on.
+const CONSTANT: &str = "version = 1
+ticks = 1
+[[program]]
+name = \"half\"
+code = \"00030000ffffffffffffffffffffffffffffffffffff0a0000000001000009000000000200002300000000000000\"
+[[program]]
+name = \"never\"
+code = \"00020000ffffffffffffffffffffffffffffffffffff20000000000000002400000000000000\"
+[[node]]
+program = \"never\"
+[[node]]
+program = \"half\"
+";
+
+const CONSTANT_REPORT: &str = "report 1 mapping cob ticks 1 nodes 2
+state 0 node 0 trace 1 outcome assert@0@0 inputs -
+state 1 node 1 trace 0 outcome running inputs 1.0=1
+state 2 node 0 trace 1 outcome assert@0@0 inputs -
+state 3 node 1 trace 1 outcome running inputs -
+dstate 0 columns 0 1
+dstate 1 columns 2 3
+failure 0 reached dstate 0 pick 0 1 inputs 1.0=1
+failure 2 reached dstate 1 pick 2 3 inputs -
+end states 4 dstates 2 reached 2 open 0
+";
+
+const NO_TICKS_REPORT: &str = "report 1 mapping cob ticks 0 nodes 2
+state 0 node 0 trace - outcome running inputs -
+state 1 node 1 trace - outcome running inputs -
+dstate 0 columns 0 1
+end states 2 dstates 1 reached 0 open 0
+";
 
 /// A node that sends its input where it is not 0, and two that do nothing on a packet.
 /// - ifsend: `boot: input r0, 1`, `brz r0, a`, `send 0, r0, 1`, `a: ret`
@@ -75,21 +152,6 @@ dstate 1 columns 3 4 5
 end states 6 dstates 2 reached 0 open 0
 ";
 
-#[test]
-fn one_packet_or_none(rt: HostRuntime) -> Result<(), Fail> {
-    let ran = call_on(rt.alloc(), ONE_PACKET_OR_NONE.as_bytes())?;
-    assert_eq!(rt; ran.status, Status::Clean);
-    assert_eq!(rt; ran.text.as_slice(), ONE_PACKET_OR_NONE_REPORT.as_bytes());
-    let file = ONE_PACKET_OR_NONE.replace(rt.alloc(), "ticks = 2", "ticks = 1")?;
-    let ran = call_on(rt.alloc(), file.as_bytes())?;
-    assert_eq!(rt; ran.status, Status::Clean);
-    assert_eq!(rt;
-        ran.text.as_slice(),
-        ONE_PACKET_OR_NONE_NEVER_ARRIVES.as_bytes()
-    );
-    Ok(())
-}
-
 /// A packet and a timer of one tick: the timer's assertion holds on the word that the packet's event left.
 /// - ping: `boot: send 0, r0, 0`, `ret`
 /// - late: `boot: timer 0, 1`, `ret`, `recv: const r0, 1`, `ret`, `timer0: assert r0`, `ret`
@@ -117,14 +179,6 @@ state 1 node 1 trace 0 outcome running inputs -
 dstate 0 columns 0 1
 end states 2 dstates 1 reached 0 open 0
 ";
-
-#[test]
-fn packet_before_timer(rt: HostRuntime) -> Result<(), Fail> {
-    let ran = call_on(rt.alloc(), PACKET_BEFORE_TIMER.as_bytes())?;
-    assert_eq!(rt; ran.status, Status::Clean);
-    assert_eq!(rt; ran.text.as_slice(), PACKET_BEFORE_TIMER_REPORT.as_bytes());
-    Ok(())
-}
 
 /// What a node decides after a send is not in the packet's guard.
 /// - early: `boot: input r0, 1`, `send 0, r0, 1`, `brz r0, a`, `a: ret`
@@ -157,17 +211,6 @@ dstate 1 columns 2 3
 end states 4 dstates 2 reached 0 open 0
 ";
 
-#[test]
-fn decided_after_sending(rt: HostRuntime) -> Result<(), Fail> {
-    let ran = call_on(rt.alloc(), DECIDED_AFTER_SENDING.as_bytes())?;
-    assert_eq!(rt; ran.status, Status::Clean);
-    assert_eq!(rt;
-        ran.text.as_slice(),
-        DECIDED_AFTER_SENDING_REPORT.as_bytes()
-    );
-    Ok(())
-}
-
 /// Both ways send the word 7, each with its own guard.
 /// - both: `boot: input r0, 1`, `brz r0, a`, `a: const r1, 7`, `send 0, r1, 1`, `ret`
 /// - idle: `recv: ret`
@@ -198,17 +241,6 @@ dstate 0 columns 0 1
 dstate 1 columns 2 3
 end states 4 dstates 2 reached 0 open 0
 ";
-
-#[test]
-fn equal_words_from_two_ways(rt: HostRuntime) -> Result<(), Fail> {
-    let ran = call_on(rt.alloc(), EQUAL_WORDS_FROM_TWO_WAYS.as_bytes())?;
-    assert_eq!(rt; ran.status, Status::Clean);
-    assert_eq!(rt;
-        ran.text.as_slice(),
-        EQUAL_WORDS_FROM_TWO_WAYS_REPORT.as_bytes()
-    );
-    Ok(())
-}
 
 /// An input sent at tick 1, held for two ticks, sent on over a delay of 2 and passed on, comes to the last node at
 /// tick 7.
@@ -275,21 +307,6 @@ state 3 node 3 trace - outcome running inputs -
 dstate 0 columns 0 1 2 3
 end states 4 dstates 1 reached 0 open 0
 ";
-
-#[test]
-fn relayed_with_timers(rt: HostRuntime) -> Result<(), Fail> {
-    let ran = call_on(rt.alloc(), RELAYED_WITH_TIMERS.as_bytes())?;
-    assert_eq!(rt; ran.status, Status::Clean);
-    assert_eq!(rt; ran.text.as_slice(), RELAYED_WITH_TIMERS_REPORT.as_bytes());
-    let file = RELAYED_WITH_TIMERS.replace(rt.alloc(), "ticks = 8", "ticks = 7")?;
-    let ran = call_on(rt.alloc(), file.as_bytes())?;
-    assert_eq!(rt; ran.status, Status::Clean);
-    assert_eq!(rt;
-        ran.text.as_slice(),
-        RELAYED_WITH_TIMERS_A_TICK_BEFORE.as_bytes()
-    );
-    Ok(())
-}
 
 /// Links are numbered node by node in the file's order: link 1 of node 0 leads to node 1. A broadcast goes over all
 /// three and before the send that follows it; a link that the node does not have sends nothing.
@@ -363,17 +380,6 @@ failure 14 reached dstate 3 pick 12 13 14 15 inputs -
 end states 16 dstates 4 reached 1 open 0
 ";
 
-#[test]
-fn broadcast_and_link_numbers(rt: HostRuntime) -> Result<(), Fail> {
-    let ran = call_on(rt.alloc(), BROADCAST_AND_LINK_NUMBERS.as_bytes())?;
-    assert_eq!(rt; ran.status, Status::Found);
-    assert_eq!(rt;
-        ran.text.as_slice(),
-        BROADCAST_AND_LINK_NUMBERS_REPORT.as_bytes()
-    );
-    Ok(())
-}
-
 /// A node that sends and then jumps to itself where its input is 0, and one that jumps to itself on a packet. What
 /// was sent before the failure stays sent.
 /// - sender: `boot: input r0, 1`, `send 0, r0, 1`, `brz r0, spin`, `ret`, `spin: jmp spin`
@@ -409,14 +415,6 @@ failure 3 reached dstate 1 pick 2 3 inputs -
 end states 4 dstates 2 reached 3 open 0
 ";
 
-#[test]
-fn spinning_without_end(rt: HostRuntime) -> Result<(), Fail> {
-    let ran = call_on(rt.alloc(), SPINNING_WITHOUT_END.as_bytes())?;
-    assert_eq!(rt; ran.status, Status::Found);
-    assert_eq!(rt; ran.text.as_slice(), SPINNING_WITHOUT_END_REPORT.as_bytes());
-    Ok(())
-}
-
 /// Five instructions a turn: 102 turns are 510 instructions, and the third of the next turn is not executed.
 /// - turns: `boot: node r1`, `now r2`, `rlen r3`, `rfrom r4`, `brz r0, boot`, `ret`
 const FUEL_BY_THE_COUNT_OF_BITS: &str = "version = 1
@@ -434,17 +432,6 @@ dstate 0 columns 0
 failure 0 reached dstate 0 pick 0 inputs -
 end states 1 dstates 1 reached 1 open 0
 ";
-
-#[test]
-fn fuel_by_the_count_of_bits(rt: HostRuntime) -> Result<(), Fail> {
-    let ran = call_on(rt.alloc(), FUEL_BY_THE_COUNT_OF_BITS.as_bytes())?;
-    assert_eq!(rt; ran.status, Status::Found);
-    assert_eq!(rt;
-        ran.text.as_slice(),
-        FUEL_BY_THE_COUNT_OF_BITS_REPORT.as_bytes()
-    );
-    Ok(())
-}
 
 /// An event of 512 instructions: 15 constants, 15 turns of 33 instructions and 2 at the end.
 /// - counted: `boot: const r1, 1` to `const r15, 1`, `turn: brz r1, out`, `mov r1, r2` to `mov r14, r15`,
@@ -471,21 +458,6 @@ dstate 0 columns 0
 failure 0 reached dstate 0 pick 0 inputs -
 end states 1 dstates 1 reached 1 open 0
 ";
-
-#[test]
-fn exactly_the_fuel(rt: HostRuntime) -> Result<(), Fail> {
-    let ran = call_on(rt.alloc(), EXACTLY_THE_FUEL.as_bytes())?;
-    assert_eq!(rt; ran.status, Status::Clean);
-    assert_eq!(rt; ran.text.as_slice(), EXACTLY_THE_FUEL_REPORT.as_bytes());
-    let file = EXACTLY_THE_FUEL.replace(rt.alloc(), "0901000000310000", "0901000000300000")?;
-    let ran = call_on(rt.alloc(), file.as_bytes())?;
-    assert_eq!(rt; ran.status, Status::Found);
-    assert_eq!(rt;
-        ran.text.as_slice(),
-        EXACTLY_THE_FUEL_ONE_TOO_MANY.as_bytes()
-    );
-    Ok(())
-}
 
 /// The sender's branch and the receiver's assertion are on one input, and the packet's guard is empty: each node
 /// alone is possible, and two of the four scenarios are not.
@@ -527,14 +499,6 @@ failure 7 reached dstate 3 pick 6 7 inputs -
 end states 8 dstates 4 reached 1 open 0
 ";
 
-#[test]
-fn failure_in_no_run(rt: HostRuntime) -> Result<(), Fail> {
-    let ran = call_on(rt.alloc(), FAILURE_IN_NO_RUN.as_bytes())?;
-    assert_eq!(rt; ran.status, Status::Found);
-    assert_eq!(rt; ran.text.as_slice(), FAILURE_IN_NO_RUN_REPORT.as_bytes());
-    Ok(())
-}
-
 /// The packet is sent only where its word is not 0, so the assertion on it cannot fail.
 /// - ifsend: `boot: input r0, 1`, `brz r0, a`, `send 0, r0, 1`, `a: ret`
 /// - asserts: `recv: recvw r0, 0`, `assert r0`, `ret`
@@ -565,17 +529,6 @@ dstate 0 columns 0 1
 dstate 1 columns 2 3
 end states 4 dstates 2 reached 0 open 0
 ";
-
-#[test]
-fn guard_rules_a_failure_out(rt: HostRuntime) -> Result<(), Fail> {
-    let ran = call_on(rt.alloc(), GUARD_RULES_A_FAILURE_OUT.as_bytes())?;
-    assert_eq!(rt; ran.status, Status::Clean);
-    assert_eq!(rt;
-        ran.text.as_slice(),
-        GUARD_RULES_A_FAILURE_OUT_REPORT.as_bytes()
-    );
-    Ok(())
-}
 
 /// A relay that decides nothing sends on under the guard that it was sent.
 /// - ifsend: `boot: input r0, 1`, `brz r0, a`, `send 0, r0, 1`, `a: ret`
@@ -619,17 +572,6 @@ dstate 0 columns 0 1 2
 dstate 1 columns 3 4 5
 end states 6 dstates 2 reached 0 open 0
 ";
-
-#[test]
-fn guard_goes_on_over_a_relay(rt: HostRuntime) -> Result<(), Fail> {
-    let ran = call_on(rt.alloc(), GUARD_GOES_ON_OVER_A_RELAY.as_bytes())?;
-    assert_eq!(rt; ran.status, Status::Clean);
-    assert_eq!(rt;
-        ran.text.as_slice(),
-        GUARD_GOES_ON_OVER_A_RELAY_REPORT.as_bytes()
-    );
-    Ok(())
-}
 
 /// Node 1 is sent to and sends in one tick: what it sends does not have the guard of what it was sent. Node 2 has
 /// no link for its broadcast.
@@ -675,17 +617,6 @@ dstate 1 columns 3 4 5
 end states 6 dstates 2 reached 0 open 0
 ";
 
-#[test]
-fn guards_join_at_the_end_of_the_tick(rt: HostRuntime) -> Result<(), Fail> {
-    let ran = call_on(rt.alloc(), GUARDS_JOIN_AT_THE_END_OF_THE_TICK.as_bytes())?;
-    assert_eq!(rt; ran.status, Status::Clean);
-    assert_eq!(rt;
-        ran.text.as_slice(),
-        GUARDS_JOIN_AT_THE_END_OF_THE_TICK_REPORT.as_bytes()
-    );
-    Ok(())
-}
-
 /// An input of the boot event and one of a timer's; the third decision is on the first input again.
 /// - reads: `boot: input r0, 1`, `mov r1, r0`, `timer 0, 1`, `ret`, `timer0: input r0, 1`, `brz r1, a`,
 /// `a: brz r0, b`, `b: brz r1, c`, `c: ret`
@@ -709,14 +640,6 @@ dstate 2 columns 2
 dstate 3 columns 3
 end states 4 dstates 4 reached 0 open 0
 ";
-
-#[test]
-fn inputs_of_two_events(rt: HostRuntime) -> Result<(), Fail> {
-    let ran = call_on(rt.alloc(), INPUTS_OF_TWO_EVENTS.as_bytes())?;
-    assert_eq!(rt; ran.status, Status::Clean);
-    assert_eq!(rt; ran.text.as_slice(), INPUTS_OF_TWO_EVENTS_REPORT.as_bytes());
-    Ok(())
-}
 
 /// Node 1 decides on the input at tick 1; node 0 sends again at tick 2 where it is not 0. This guard ends the
 /// scenario in which node 1 found it 0, although the packet does not arrive any more.
@@ -768,24 +691,6 @@ dstate 2 columns 4 5
 end states 6 dstates 3 reached 0 open 0
 ";
 
-#[test]
-fn guard_against_an_earlier_decision(rt: HostRuntime) -> Result<(), Fail> {
-    let ran = call_on(rt.alloc(), GUARD_AGAINST_AN_EARLIER_DECISION.as_bytes())?;
-    assert_eq!(rt; ran.status, Status::Clean);
-    assert_eq!(rt;
-        ran.text.as_slice(),
-        GUARD_AGAINST_AN_EARLIER_DECISION_REPORT.as_bytes()
-    );
-    let file = GUARD_AGAINST_AN_EARLIER_DECISION.replace(rt.alloc(), "ticks = 3", "ticks = 4")?;
-    let ran = call_on(rt.alloc(), file.as_bytes())?;
-    assert_eq!(rt; ran.status, Status::Clean);
-    assert_eq!(rt;
-        ran.text.as_slice(),
-        GUARD_AGAINST_AN_EARLIER_DECISION_ARRIVES_TOO.as_bytes()
-    );
-    Ok(())
-}
-
 /// A node that halted and one that failed get the guards of what is sent to them.
 /// - caller: `boot: input r0, 1`, `brz r0, a`, `bcast r0, 1`, `a: ret`
 /// - halts: `boot: halt`, `recv: assert r0`, `ret`
@@ -831,17 +736,6 @@ failure 5 reached dstate 1 pick 3 4 5 inputs -
 end states 6 dstates 2 reached 2 open 0
 ";
 
-#[test]
-fn ended_nodes_are_still_sent_to(rt: HostRuntime) -> Result<(), Fail> {
-    let ran = call_on(rt.alloc(), ENDED_NODES_ARE_STILL_SENT_TO.as_bytes())?;
-    assert_eq!(rt; ran.status, Status::Found);
-    assert_eq!(rt;
-        ran.text.as_slice(),
-        ENDED_NODES_ARE_STILL_SENT_TO_REPORT.as_bytes()
-    );
-    Ok(())
-}
-
 /// Timer 0 comes before timer 1 of its tick, timer 2 was cancelled, timer 3 was set anew to tick 3, timer 4 comes
 /// at tick 2.
 /// - timers: `boot: timer 1, 1`, `timer 0, 1`, `timer 2, 1`, `cancel 2`, `timer 3, 1`, `timer 3, 3`, `timer 4, 2`,
@@ -861,17 +755,6 @@ state 0 node 0 trace 011 outcome halted inputs -
 dstate 0 columns 0
 end states 1 dstates 1 reached 0 open 0
 ";
-
-#[test]
-fn timers_set_replaced_and_cancelled(rt: HostRuntime) -> Result<(), Fail> {
-    let ran = call_on(rt.alloc(), TIMERS_SET_REPLACED_AND_CANCELLED.as_bytes())?;
-    assert_eq!(rt; ran.status, Status::Clean);
-    assert_eq!(rt;
-        ran.text.as_slice(),
-        TIMERS_SET_REPLACED_AND_CANCELLED_REPORT.as_bytes()
-    );
-    Ok(())
-}
 
 /// Both nodes look at length, sender, words, own number and tick at boot, at a packet of two words and at a timer.
 /// Node 1 has no link.
@@ -899,14 +782,6 @@ state 1 node 1 trace 101101010100101100 outcome running inputs -
 dstate 0 columns 0 1
 end states 2 dstates 1 reached 0 open 0
 ";
-
-#[test]
-fn what_a_node_sees(rt: HostRuntime) -> Result<(), Fail> {
-    let ran = call_on(rt.alloc(), WHAT_A_NODE_SEES.as_bytes())?;
-    assert_eq!(rt; ran.status, Status::Clean);
-    assert_eq!(rt; ran.text.as_slice(), WHAT_A_NODE_SEES_REPORT.as_bytes());
-    Ok(())
-}
 
 /// At tick 2 the fourth packet of node 0 comes before the second and third of node 1; the first of node 1 comes at
 /// tick 3. Node 1 has no handler for the three packets that it gets.
@@ -962,14 +837,6 @@ dstate 0 columns 0 1 2
 end states 3 dstates 1 reached 0 open 0
 ";
 
-#[test]
-fn order_of_packets(rt: HostRuntime) -> Result<(), Fail> {
-    let ran = call_on(rt.alloc(), ORDER_OF_PACKETS.as_bytes())?;
-    assert_eq!(rt; ran.status, Status::Clean);
-    assert_eq!(rt; ran.text.as_slice(), ORDER_OF_PACKETS_REPORT.as_bytes());
-    Ok(())
-}
-
 /// A packet of eight words, the last register's last, and one of none.
 /// - sender: `boot: const r15, 1`, `send 0, r8, 8`, `send 0, r0, 0`, `ret`
 /// - reads: `recv: recvw r0, 7`, `brz r0, a`, `a: rlen r1`, `brz r1, b`, `b: ret`
@@ -997,14 +864,6 @@ state 1 node 1 trace 0011 outcome running inputs -
 dstate 0 columns 0 1
 end states 2 dstates 1 reached 0 open 0
 ";
-
-#[test]
-fn eight_words_and_none(rt: HostRuntime) -> Result<(), Fail> {
-    let ran = call_on(rt.alloc(), EIGHT_WORDS_AND_NONE.as_bytes())?;
-    assert_eq!(rt; ran.status, Status::Clean);
-    assert_eq!(rt; ran.text.as_slice(), EIGHT_WORDS_AND_NONE_REPORT.as_bytes());
-    Ok(())
-}
 
 /// Three nodes in a ring pass on an input of node 0 while it is not 0; the guard goes round with it.
 /// - ring: `boot: node r1`, `brz r1, start`, `ret`, `start: timer 0, 1`, `ret`, `timer0: input r0, 1`,
@@ -1045,14 +904,6 @@ dstate 0 columns 0 1 2
 dstate 1 columns 3 4 5
 end states 6 dstates 2 reached 0 open 0
 ";
-
-#[test]
-fn round_a_ring(rt: HostRuntime) -> Result<(), Fail> {
-    let ran = call_on(rt.alloc(), ROUND_A_RING.as_bytes())?;
-    assert_eq!(rt; ran.status, Status::Clean);
-    assert_eq!(rt; ran.text.as_slice(), ROUND_A_RING_REPORT.as_bytes());
-    Ok(())
-}
 
 /// An input goes over a node that holds it for a tick, and over one that passes it on where it is not 0.
 /// - source: `boot: input r0, 1`, `bcast r0, 1`, `ret`
@@ -1119,14 +970,6 @@ failure 11 reached dstate 2 pick 8 9 10 11 inputs -
 end states 12 dstates 3 reached 1 open 0
 ";
 
-#[test]
-fn two_ways_to_one_node(rt: HostRuntime) -> Result<(), Fail> {
-    let ran = call_on(rt.alloc(), TWO_WAYS_TO_ONE_NODE.as_bytes())?;
-    assert_eq!(rt; ran.status, Status::Found);
-    assert_eq!(rt; ran.text.as_slice(), TWO_WAYS_TO_ONE_NODE_REPORT.as_bytes());
-    Ok(())
-}
-
 /// Two nodes each claim where their input is not 0, and fail on the other's claim where they claimed too; a third
 /// hears both.
 /// - claims: `boot: input r0, 1`, `brz r0, a`, `bcast r0, 1`, `a: ret`, `recv: brz r0, b`, `assert r1`, `b: ret`
@@ -1185,14 +1028,6 @@ failure 4 reached dstate 1 pick 3 4 5 inputs 0.0=1 1.0=1
 end states 12 dstates 4 reached 2 open 0
 ";
 
-#[test]
-fn two_claims_meet(rt: HostRuntime) -> Result<(), Fail> {
-    let ran = call_on(rt.alloc(), TWO_CLAIMS_MEET.as_bytes())?;
-    assert_eq!(rt; ran.status, Status::Found);
-    assert_eq!(rt; ran.text.as_slice(), TWO_CLAIMS_MEET_REPORT.as_bytes());
-    Ok(())
-}
-
 /// A timer set to tick 4,095, the last of 4,096, and one that is due after them.
 /// - waits: `boot: timer 1, 65535`, `timer 0, 4095`, `ret`, `timer0: halt`
 const THE_LAST_OF_ALL_TICKS: &str = "version = 1
@@ -1217,24 +1052,6 @@ dstate 0 columns 0
 end states 1 dstates 1 reached 0 open 0
 ";
 
-#[test]
-fn the_last_of_all_ticks(rt: HostRuntime) -> Result<(), Fail> {
-    let ran = call_on(rt.alloc(), THE_LAST_OF_ALL_TICKS.as_bytes())?;
-    assert_eq!(rt; ran.status, Status::Clean);
-    assert_eq!(rt;
-        ran.text.as_slice(),
-        THE_LAST_OF_ALL_TICKS_REPORT.as_bytes()
-    );
-    let file = THE_LAST_OF_ALL_TICKS.replace(rt.alloc(), "ticks = 4096", "ticks = 4095")?;
-    let ran = call_on(rt.alloc(), file.as_bytes())?;
-    assert_eq!(rt; ran.status, Status::Clean);
-    assert_eq!(rt;
-        ran.text.as_slice(),
-        THE_LAST_OF_ALL_TICKS_A_TICK_LESS.as_bytes()
-    );
-    Ok(())
-}
-
 /// 170 branches in one event.
 /// - wide: `boot: input r0, 1`, `brz r0, a`, `a: jmp boot`
 const MORE_PREFIXES_THAN_THE_LIMIT: &str = "version = 1
@@ -1248,17 +1065,6 @@ program = \"wide\"
 
 const MORE_PREFIXES_THAN_THE_LIMIT_REPORT: &str = "netsym: limit states tick 0
 ";
-
-#[test]
-fn more_prefixes_than_the_limit(rt: HostRuntime) -> Result<(), Fail> {
-    let ran = call_on(rt.alloc(), MORE_PREFIXES_THAN_THE_LIMIT.as_bytes())?;
-    assert_eq!(rt; ran.status, Status::Limit);
-    assert_eq!(rt;
-        ran.text.as_slice(),
-        MORE_PREFIXES_THAN_THE_LIMIT_REPORT.as_bytes()
-    );
-    Ok(())
-}
 
 /// Seven branches of each of two nodes at tick 1 are 16,384 scenarios.
 /// - seven: `boot: timer 0, 1`, `ret`, `timer0: input r0, 1`, `brz r0, a`, `a: input r0, 1`, `brz r0, b`,
@@ -1278,76 +1084,252 @@ program = \"seven\"
 const MORE_SCENARIOS_THAN_THE_LIMIT_REPORT: &str = "netsym: limit dstates tick 1
 ";
 
-#[test]
-fn more_scenarios_than_the_limit(rt: HostRuntime) -> Result<(), Fail> {
-    let ran = call_on(rt.alloc(), MORE_SCENARIOS_THAN_THE_LIMIT.as_bytes())?;
-    assert_eq!(rt; ran.status, Status::Limit);
-    assert_eq!(rt;
-        ran.text.as_slice(),
-        MORE_SCENARIOS_THAN_THE_LIMIT_REPORT.as_bytes()
-    );
-    Ok(())
-}
-
-/// A program that makes so many inputs of one bit and branches on each, at boot.
-fn branching(alloc: Global, count: u16) -> Result<String, Fail> {
-    let mut code = format!(in alloc;
-        "{:04x}0000ffffffffffffffffffffffffffffffffffff",
-        2 * u32::from(count) + 1
-    )?;
-    for index in 0..count {
-        let next = 2 * u32::from(index) + 2;
-        write!(code, "0a00000000010000090000000{next:03x}0000")?;
-    }
-    code.push_str("2300000000000000")?;
-    Ok(code)
-}
-
-/// A file of one tick with one program, and so many nodes that run it.
-fn alike_nodes(alloc: Global, code: &str, nodes: u32) -> Result<String, Fail> {
-    let mut text = format!(in alloc;
-        "version = 1\nticks = 1\n[[program]]\nname = \"p\"\ncode = \"{code}\"\n"
-    )?;
-    for _ in 0..nodes {
-        text.push_str("[[node]]\nprogram = \"p\"\n")?;
-    }
-    Ok(text)
-}
-
-/// The status on a file, and whether the text ends so.
-fn ends_with(alloc: Global, file: &str, end: &str) -> Result<(Status, bool), Fail> {
-    let mut source = MemSource::new(file.as_bytes().to_vec(alloc)?, Vec::new(alloc));
-    let mut sink = MemSink::new(vec![in alloc; 0u8; 2_000_000]?, Vec::new(alloc));
-    let status = run_alone(alloc, &COMMAND, &mut source, &mut sink);
-    Ok((status, sink.bytes().ends_with(end.as_bytes())))
-}
-
-/// 12 branches in one event are 4,096 paths, as many as are allowed; with one more they are too many.
-#[test]
-fn paths_up_to_the_limit(rt: HostRuntime) -> Result<(), Fail> {
-    let alloc = rt.alloc();
-    let most = alike_nodes(alloc, &branching(alloc, 12)?, 1)?;
-    let end = "\nend states 4096 dstates 4096 reached 0 open 0\n";
-    assert!(rt; ends_with(alloc, &most, end)? == (Status::Clean, true));
-    let more = alike_nodes(alloc, &branching(alloc, 13)?, 1)?;
-    let end = "netsym: limit states tick 0\n";
-    assert!(rt; ends_with(alloc, &more, end)? == (Status::Limit, true));
-    Ok(())
-}
-
-/// Two nodes with six branches each have 4,096 scenarios, as many as are allowed; with a third node they are too many.
-#[test]
-fn scenarios_up_to_the_limit(rt: HostRuntime) -> Result<(), Fail> {
-    let alloc = rt.alloc();
-    let six = branching(alloc, 6)?;
-    let most = alike_nodes(alloc, &six, 2)?;
-    let end = "\nend states 8192 dstates 4096 reached 0 open 0\n";
-    assert!(rt; ends_with(alloc, &most, end)? == (Status::Clean, true));
-    let one = branching(alloc, 1)?;
-    let more = format!(in alloc;
-        "version = 1\nticks = 1\n[[program]]\nname = \"p\"\ncode = \"{six}\"\n[[program]]\nname = \"q\"\ncode = \"{one}\"\n[[node]]\nprogram = \"p\"\n[[node]]\nprogram = \"p\"\n[[node]]\nprogram = \"q\"\n"
-    )?;
-    let end = "netsym: limit dstates tick 0\n";
-    assert!(rt; ends_with(alloc, &more, end)? == (Status::Limit, true));
-    Ok(())
-}
+/// All worked files.
+pub const ROWS: [Row; 36] = [
+    ("halves", HALVES, AS_IT_STANDS, Status::Clean, HALVES_REPORT),
+    (
+        "careful",
+        CAREFUL,
+        AS_IT_STANDS,
+        Status::Found,
+        CAREFUL_REPORT,
+    ),
+    (
+        "constant",
+        CONSTANT,
+        AS_IT_STANDS,
+        Status::Found,
+        CONSTANT_REPORT,
+    ),
+    (
+        "no ticks",
+        HALVES,
+        ("ticks = 1", "ticks = 0"),
+        Status::Clean,
+        NO_TICKS_REPORT,
+    ),
+    (
+        "upper case",
+        HALVES,
+        ("ffff", "FFFF"),
+        Status::Clean,
+        HALVES_REPORT,
+    ),
+    (
+        "one packet or none",
+        ONE_PACKET_OR_NONE,
+        AS_IT_STANDS,
+        Status::Clean,
+        ONE_PACKET_OR_NONE_REPORT,
+    ),
+    (
+        "one packet or none never arrives",
+        ONE_PACKET_OR_NONE,
+        ("ticks = 2", "ticks = 1"),
+        Status::Clean,
+        ONE_PACKET_OR_NONE_NEVER_ARRIVES,
+    ),
+    (
+        "packet before timer",
+        PACKET_BEFORE_TIMER,
+        AS_IT_STANDS,
+        Status::Clean,
+        PACKET_BEFORE_TIMER_REPORT,
+    ),
+    (
+        "decided after sending",
+        DECIDED_AFTER_SENDING,
+        AS_IT_STANDS,
+        Status::Clean,
+        DECIDED_AFTER_SENDING_REPORT,
+    ),
+    (
+        "equal words from two ways",
+        EQUAL_WORDS_FROM_TWO_WAYS,
+        AS_IT_STANDS,
+        Status::Clean,
+        EQUAL_WORDS_FROM_TWO_WAYS_REPORT,
+    ),
+    (
+        "relayed with timers",
+        RELAYED_WITH_TIMERS,
+        AS_IT_STANDS,
+        Status::Clean,
+        RELAYED_WITH_TIMERS_REPORT,
+    ),
+    (
+        "relayed with timers a tick before",
+        RELAYED_WITH_TIMERS,
+        ("ticks = 8", "ticks = 7"),
+        Status::Clean,
+        RELAYED_WITH_TIMERS_A_TICK_BEFORE,
+    ),
+    (
+        "broadcast and link numbers",
+        BROADCAST_AND_LINK_NUMBERS,
+        AS_IT_STANDS,
+        Status::Found,
+        BROADCAST_AND_LINK_NUMBERS_REPORT,
+    ),
+    (
+        "spinning without end",
+        SPINNING_WITHOUT_END,
+        AS_IT_STANDS,
+        Status::Found,
+        SPINNING_WITHOUT_END_REPORT,
+    ),
+    (
+        "fuel by the count of bits",
+        FUEL_BY_THE_COUNT_OF_BITS,
+        AS_IT_STANDS,
+        Status::Found,
+        FUEL_BY_THE_COUNT_OF_BITS_REPORT,
+    ),
+    (
+        "exactly the fuel",
+        EXACTLY_THE_FUEL,
+        AS_IT_STANDS,
+        Status::Clean,
+        EXACTLY_THE_FUEL_REPORT,
+    ),
+    (
+        "exactly the fuel one too many",
+        EXACTLY_THE_FUEL,
+        ("0901000000310000", "0901000000300000"),
+        Status::Found,
+        EXACTLY_THE_FUEL_ONE_TOO_MANY,
+    ),
+    (
+        "failure in no run",
+        FAILURE_IN_NO_RUN,
+        AS_IT_STANDS,
+        Status::Found,
+        FAILURE_IN_NO_RUN_REPORT,
+    ),
+    (
+        "guard rules a failure out",
+        GUARD_RULES_A_FAILURE_OUT,
+        AS_IT_STANDS,
+        Status::Clean,
+        GUARD_RULES_A_FAILURE_OUT_REPORT,
+    ),
+    (
+        "guard goes on over a relay",
+        GUARD_GOES_ON_OVER_A_RELAY,
+        AS_IT_STANDS,
+        Status::Clean,
+        GUARD_GOES_ON_OVER_A_RELAY_REPORT,
+    ),
+    (
+        "guards join at the end of the tick",
+        GUARDS_JOIN_AT_THE_END_OF_THE_TICK,
+        AS_IT_STANDS,
+        Status::Clean,
+        GUARDS_JOIN_AT_THE_END_OF_THE_TICK_REPORT,
+    ),
+    (
+        "inputs of two events",
+        INPUTS_OF_TWO_EVENTS,
+        AS_IT_STANDS,
+        Status::Clean,
+        INPUTS_OF_TWO_EVENTS_REPORT,
+    ),
+    (
+        "guard against an earlier decision",
+        GUARD_AGAINST_AN_EARLIER_DECISION,
+        AS_IT_STANDS,
+        Status::Clean,
+        GUARD_AGAINST_AN_EARLIER_DECISION_REPORT,
+    ),
+    (
+        "guard against an earlier decision arrives too",
+        GUARD_AGAINST_AN_EARLIER_DECISION,
+        ("ticks = 3", "ticks = 4"),
+        Status::Clean,
+        GUARD_AGAINST_AN_EARLIER_DECISION_ARRIVES_TOO,
+    ),
+    (
+        "ended nodes are still sent to",
+        ENDED_NODES_ARE_STILL_SENT_TO,
+        AS_IT_STANDS,
+        Status::Found,
+        ENDED_NODES_ARE_STILL_SENT_TO_REPORT,
+    ),
+    (
+        "timers set replaced and cancelled",
+        TIMERS_SET_REPLACED_AND_CANCELLED,
+        AS_IT_STANDS,
+        Status::Clean,
+        TIMERS_SET_REPLACED_AND_CANCELLED_REPORT,
+    ),
+    (
+        "what a node sees",
+        WHAT_A_NODE_SEES,
+        AS_IT_STANDS,
+        Status::Clean,
+        WHAT_A_NODE_SEES_REPORT,
+    ),
+    (
+        "order of packets",
+        ORDER_OF_PACKETS,
+        AS_IT_STANDS,
+        Status::Clean,
+        ORDER_OF_PACKETS_REPORT,
+    ),
+    (
+        "eight words and none",
+        EIGHT_WORDS_AND_NONE,
+        AS_IT_STANDS,
+        Status::Clean,
+        EIGHT_WORDS_AND_NONE_REPORT,
+    ),
+    (
+        "round a ring",
+        ROUND_A_RING,
+        AS_IT_STANDS,
+        Status::Clean,
+        ROUND_A_RING_REPORT,
+    ),
+    (
+        "two ways to one node",
+        TWO_WAYS_TO_ONE_NODE,
+        AS_IT_STANDS,
+        Status::Found,
+        TWO_WAYS_TO_ONE_NODE_REPORT,
+    ),
+    (
+        "two claims meet",
+        TWO_CLAIMS_MEET,
+        AS_IT_STANDS,
+        Status::Found,
+        TWO_CLAIMS_MEET_REPORT,
+    ),
+    (
+        "the last of all ticks",
+        THE_LAST_OF_ALL_TICKS,
+        AS_IT_STANDS,
+        Status::Clean,
+        THE_LAST_OF_ALL_TICKS_REPORT,
+    ),
+    (
+        "the last of all ticks a tick less",
+        THE_LAST_OF_ALL_TICKS,
+        ("ticks = 4096", "ticks = 4095"),
+        Status::Clean,
+        THE_LAST_OF_ALL_TICKS_A_TICK_LESS,
+    ),
+    (
+        "more prefixes than the limit",
+        MORE_PREFIXES_THAN_THE_LIMIT,
+        AS_IT_STANDS,
+        Status::Limit,
+        MORE_PREFIXES_THAN_THE_LIMIT_REPORT,
+    ),
+    (
+        "more scenarios than the limit",
+        MORE_SCENARIOS_THAN_THE_LIMIT,
+        AS_IT_STANDS,
+        Status::Limit,
+        MORE_SCENARIOS_THAN_THE_LIMIT_REPORT,
+    ),
+];
