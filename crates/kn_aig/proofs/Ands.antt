@@ -1,5 +1,5 @@
 -- The three ways in which a gate is had: simplified, found, and new.
-use Rattle.std.proofs.Common.{◌≡◌, ◌≢◌, ℕ, ◌<◌, ◌≤◌, Bool, true, false, ◌&&◌, List, [], ◌∷◌, ◌++◌, length, get_or, take, refl, ap, sym, ◌∙◌, inl, inr, arith, length-append, append-nil}
+use Rattle.std.proofs.Common.{◌≡◌, ◌≢◌, ℕ, ◌<◌, ◌≤◌, Bool, true, false, ◌&&◌, List, [], ◌∷◌, ◌++◌, length, get_or, take, refl, ap, sym, ◌∙◌, inl, inr, arith, length-append}
 use Rattle.std.specs.Prelude.{slice_get, nat_lt, Some, None, if◌then◌else◌}
 use Rattle.std.specs.declared.option.Option.{Option}
 use Rattle.std.proofs.lemmas.Bool.{cases_lt, lt-ltb, le-ltb}
@@ -8,9 +8,8 @@ use Rattle.kn_aig.specs.declared.gates.Edge.{Edge}
 use Rattle.kn_aig.specs.declared.gates.Pair.{Pair}
 use Rattle.kn_aig.specs.declared.gates.AigNode.{AigNode}
 use Rattle.kn_aig.specs.declared.gates.AigNode.TheVariants as nodes
-use Rattle.kn_built.specs.Built.{Extends}
 use Rattle.kn_aig.specs.Circuits.{flip, edge_of, node_of, values_of, value_of, inputs_of, Fits, AllFit, Stands, IsIndex, IsGate, IsAnd, pair_of}
-use Rattle.kn_built.proofs.BuiltLaws.{built_after-kept, built_at-row, built_at-before}
+use Rattle.kn_aig.proofs.Values.{extends_same, value_at, value_before}
 use Rattle.kn_aig.proofs.Longer.{inputs_of-append, value_of-pushed}
 
 -- an edge has one value where its node has
@@ -22,30 +21,27 @@ node_along : (bits : List Bool) (ns : List AigNode) (k : ℕ) (n : AigNode) → 
 node_along bits ns k nodes.Constant h f = refl
 node_along bits ns k (nodes.Input i) h f = refl
 node_along bits ns k (nodes.And x y) h f =
-    let first = edge_congr (values_of bits (take k ns)) (values_of bits ns) x (built_at-before (node_of bits) false ns k x.node (omega (arith, f.1, f.2)) h) in
-    let second = edge_congr (values_of bits (take k ns)) (values_of bits ns) y (built_at-before (node_of bits) false ns k y.node f.2 h) in
+    let first = edge_congr (values_of bits (take k ns)) (values_of bits ns) x (value_before bits ns k x.node (omega (arith, f.1, f.2)) h) in
+    let second = edge_congr (values_of bits (take k ns)) (values_of bits ns) y (value_before bits ns k y.node f.2 h) in
     ap (λ (b : Bool). b && edge_of (values_of bits (take k ns)) y) first ∙ ap (λ (b : Bool). edge_of (values_of bits ns) x && b) second
 
 -- what a node's value is, by the values of all nodes
 pub node_value : (bits : List Bool) (ns : List AigNode) (k : ℕ) (n : AigNode) → AllFit ns → slice_get ns k ≡ Some n → get_or (values_of bits ns) k false ≡ node_of bits (values_of bits ns) n
 node_value bits ns k n all at =
     let inside : k < length ns = slice_get_within ns k n at in
-    let row = built_at-row (node_of bits) false ns k n inside in
+    let row = value_at bits ns k n inside in
     let is : get_or ns k n ≡ n = get_or_from_slice_get ns k n n at in
     row ∙ (ap (node_of bits (values_of bits (take k ns))) is ∙ node_along bits ns k n (omega arith) (all k n at))
 
 -- the constant is false
 pub constant_value : (bits : List Bool) (ns : List AigNode) → get_or (values_of bits (nodes.Constant ∷ ns)) 0 false ≡ false
-constant_value bits ns = built_after-kept (node_of bits) (false ∷ []) ns 0 false (omega arith)
+constant_value bits ns = refl
 
 and_swap : (a b : Bool) → (a && b) ≡ (b && a)
 and_swap true true = refl
 and_swap true false = refl
 and_swap false true = refl
 and_swap false false = refl
-
-nothing_more : (ns : List AigNode) → Extends ns ns
-nothing_more ns = ([], sym (append-nil ns))
 
 -- a gate that is one of the edges or a constant
 pub and_simple : (items : List AigNode) (x y e : Edge) → Stands (nodes.Constant ∷ items) x → Stands (nodes.Constant ∷ items) y
@@ -54,7 +50,7 @@ pub and_simple : (items : List AigNode) (x y e : Edge) → Stands (nodes.Constan
 and_simple items x y e sx sy value stands = record {
   value = λ bits. value (values_of bits (nodes.Constant ∷ items)) (constant_value bits items);
   stands = stands _ sx sy;
-  grows = nothing_more _;
+  grows = extends_same _;
   inputs = refl;
   known = λ _. refl;
 }
@@ -72,7 +68,7 @@ pub and_found : (ns : List AigNode) (x y : Edge) (k : ℕ) → AllFit ns → sli
 and_found ns x y k all at = record {
   value = λ bits. node_value bits ns k _ all at ∙ pair_value bits ns x y;
   stands = slice_get_within ns k _ at;
-  grows = nothing_more ns;
+  grows = extends_same ns;
   inputs = refl;
   known = λ _. refl;
 }

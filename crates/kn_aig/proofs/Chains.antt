@@ -1,14 +1,13 @@
 -- Gates made of several and-gates, and the values of all nodes in turn.
-use Rattle.std.proofs.Common.{◌≡◌, ℕ, zero, suc, ◌+◌, ◌<◌, Bool, true, false, not, ◌&&◌, List, [], ◌∷◌, ◌++◌, length, get_or, take, refl, ap, subst, ◌∙◌, arith, length-append, append_assoc}
+use Rattle.std.proofs.Common.{◌≡◌, ℕ, zero, suc, ◌+◌, ◌<◌, Bool, true, false, not, ◌&&◌, List, [], ◌∷◌, ◌++◌, length, get_or, take, refl, ap, subst, ◌∙◌, arith}
 use Rattle.std.specs.Prelude.{slice_get, Some, if◌then◌else◌}
 use Rattle.std.proofs.lemmas.List.{take_more}
 use Rattle.std.proofs.lemmas.Option.{slice_get-get_or}
 use Rattle.kn_aig.specs.declared.gates.Edge.{Edge}
 use Rattle.kn_aig.specs.declared.gates.AigNode.{AigNode}
 use Rattle.kn_aig.specs.declared.gates.AigNode.TheVariants as nodes
-use Rattle.kn_built.specs.Built.{Extends}
-use Rattle.kn_aig.specs.Circuits.{differ, flip, node_of, values_of, value_of, input_count, inputs_of, Fits, AllFit, Stands, IsAnd, IsWithin}
-use Rattle.kn_built.proofs.BuiltLaws.{built-snoc}
+use Rattle.kn_aig.specs.Circuits.{differ, flip, node_of, values_of, value_of, input_count, inputs_of, Fits, AllFit, Extends, Stands, IsAnd, IsWithin}
+use Rattle.kn_aig.proofs.Values.{extends_twice, length_extends, values-push}
 use Rattle.kn_aig.proofs.Longer.{value_of-extends}
 
 -- an edge turned round
@@ -23,12 +22,8 @@ flip_not false b = refl
 turned_value : (bits : List Bool) (ns : List AigNode) (e : Edge) → value_of bits ns (turned e) ≡ not (value_of bits ns e)
 turned_value bits ns e = flip_not e.inverted (get_or (values_of bits ns) e.node false)
 
--- a circuit that grew twice
-pub grew : {X : Type 0} (a b c : List X) → Extends a b → Extends b c → Extends a c
-grew a b c f g = (f.0 ++ g.0, g.1 ∙ (ap (λ xs. xs ++ g.0) f.1 ∙ append_assoc a f.0 g.0))
-
 pub longer : (old new : List AigNode) (e : Edge) → Extends old new → Stands old e → Stands new e
-longer old new e more stands = omega (arith, stands, ap length more.1, length-append old more.0)
+longer old new e more stands = omega (arith, stands, length_extends old new more)
 
 xor_bits : (a b : Bool) → (not (a && b) && not (not a && not b)) ≡ differ a b
 xor_bits true true = refl
@@ -83,7 +78,7 @@ xor_made self a b c d x y both neither e nx ny nb nn is sx sy ex ey eb en first 
     let one : IsAnd self b x y both = subst (λ (s : List AigNode). IsAnd s b x y both) is first in
     let two = gate_of b c (turned x) (turned y) nx ny neither ex ey second in
     let three = gate_of c d (turned both) (turned neither) nb nn e eb en third in
-    (λ bits. xor_value self b c d x y both neither e bits sx sy one two three, grew self c d (grew self b c one.grows two.grows) three.grows)
+    (λ bits. xor_value self b c d x y both neither e bits sx sy one two three, extends_twice self c d (extends_twice self b c one.grows two.grows) three.grows)
 
 -- three gates make a choice
 pub ite_made : (self a b c d : List AigNode) (k x y first second none nk nf ns e : Edge) → a ≡ self → Stands self k → Stands self y → nk ≡ turned k → nf ≡ turned first → ns ≡ turned second → e ≡ turned none
@@ -92,13 +87,13 @@ ite_made self a b c d k x y first second none nk nf ns e is sk sy ek ef es ee on
     let one : IsAnd self b k x first = subst (λ (s : List AigNode). IsAnd s b k x first) is one in
     let two = gate_of b c (turned k) y nk y second ek refl two in
     let three = gate_of c d (turned first) (turned second) nf ns none ef es three in
-    (λ bits. ap (value_of bits d) ee ∙ ite_value self b c d k x y first second none bits sk sy one two three, grew self c d (grew self b c one.grows two.grows) three.grows)
+    (λ bits. ap (value_of bits d) ee ∙ ite_value self b c d k x y first second none bits sk sy one two three, extends_twice self c d (extends_twice self b c one.grows two.grows) three.grows)
 
 -- the values of one node more
 pub values_more : (bits : List Bool) (front : AigNode) (ns : List AigNode) (i : ℕ) → i < length ns
     → values_of bits (front ∷ take (i + 1) ns) ≡ values_of bits (front ∷ take i ns) ++ node_of bits (values_of bits (front ∷ take i ns)) (get_or ns i nodes.Constant) ∷ []
 values_more bits front ns i h =
-    ap (λ (xs : List AigNode). values_of bits (front ∷ xs)) (take_more ns i nodes.Constant h) ∙ built-snoc (node_of bits) (front ∷ take i ns) (get_or ns i nodes.Constant)
+    ap (λ (xs : List AigNode). values_of bits (front ∷ xs)) (take_more ns i nodes.Constant h) ∙ values-push bits (front ∷ take i ns) (get_or ns i nodes.Constant)
 
 -- the inputs before one of them are fewer than all
 pub inputs_before : (ns : List AigNode) (k i : ℕ) → slice_get ns k ≡ Some (nodes.Input i) → inputs_of (take k ns) < inputs_of ns

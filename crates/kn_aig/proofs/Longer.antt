@@ -1,19 +1,19 @@
 -- How a node more leaves the nodes before it, and what it means.
-use Rattle.std.proofs.Common.{◌≡◌, ℕ, zero, suc, ◌+◌, ◌<◌, ◌≤◌, ◌^◌, Bool, true, false, cond, ◌&&◌, List, [], ◌∷◌, ◌++◌, length, refl, ap, sym, subst, ◌∙◌, inl, inr, arith, length-append}
+use Rattle.std.proofs.Common.{◌≡◌, ℕ, zero, suc, ◌+◌, ◌<◌, ◌≤◌, ◌^◌, Bool, true, false, cond, List, [], ◌∷◌, ◌++◌, length, refl, ap, sym, subst, ◌∙◌, inl, inr, arith, length-append}
 use Rattle.std.specs.Prelude.{slice_get, Some, None, ◌⊎◌}
 use Rattle.std.specs.declared.option.Option.{Option}
 use Rattle.std.specs.declared.result.Result.{Result}
 use Rattle.std.specs.Prelude.{Ok, Err, OnOk, IsOk, ◌==◌}
 use Rattle.std.specs.Bool.{beq}
-use Rattle.std.proofs.lemmas.Bool.{cases_Bool, eqb-true, eq-eqb}
+use Rattle.std.specs.Cmp.{booleans_Decides}
+use Rattle.std.proofs.lemmas.Bool.{cases_Bool, and_parts, eqb-true, eq-eqb}
 use Rattle.std.proofs.lemmas.List.{take-append-le, take_all}
 use Rattle.kn_aig.specs.declared.gates.Edge.{Edge}
 use Rattle.kn_aig.specs.declared.gates.Pair.{Pair}
 use Rattle.kn_aig.specs.declared.gates.AigNode.{AigNode}
 use Rattle.kn_aig.specs.declared.gates.AigNode.TheVariants as nodes
-use Rattle.kn_built.specs.Built.{Extends}
-use Rattle.kn_aig.specs.Circuits.{flip, node_of, values_of, value_of, inputs_of, Fits, AllFit, Stands, IsIndex, IsKept, same_edge, same_pair}
-use Rattle.kn_built.proofs.BuiltLaws.{built_at-extends, built_at-pushed}
+use Rattle.kn_aig.specs.Circuits.{flip, node_of, values_of, value_of, inputs_of, Fits, AllFit, Extends, Stands, IsIndex, IsKept, same_edge, same_pair}
+use Rattle.kn_aig.proofs.Values.{value_at-extends, value_at-push}
 
 -- where an element of a list with one more stands
 get_push : {X : Type 0} (xs : List X) (y : X) (k : ℕ) (n : X) → slice_get (xs ++ y ∷ []) k ≡ Some n → ((k < length xs) × (slice_get xs k ≡ Some n)) ⊎ ((k ≡ length xs) × (y ≡ n))
@@ -59,12 +59,6 @@ IsIndex-input old i index is = record {
   known = λ x y k e. elim (get_push old (nodes.Input i) k (nodes.And x y) e) [ inl h ↦ is.known x y k h.1 | inr h ↦ let wrong : nodes.Input i ≡ nodes.And x y = h.1 in absurd cc ];
 }
 
--- two pairs are the same exactly where they are equal
-both : (a b : Bool) → (a && b) ≡ true → (a ≡ true) × (b ≡ true)
-both true true h = (refl, refl)
-both true false h = absurd cc
-both false b h = absurd cc
-
 -- a new gate comes into the index
 pub IsIndex-gate : (old : List AigNode) (p : Pair) (eq : Pair → Pair → Bool) (before after : Pair → Option ℕ) → ((q : Pair) → eq p q ≡ true → p ≡ q) → eq p p ≡ true
     → IsIndex old before → before p ≡ None → ((q : Pair) → after q ≡ cond (eq p q) (Some (length old)) (before q)) → IsIndex (old ++ nodes.And p.first p.second ∷ []) after
@@ -99,38 +93,27 @@ IsIndex-gate old p eq before after same itself is absent updates = record {
 
 -- edges keep their values in a longer circuit
 pub value_of-extends : (bits : List Bool) (old new : List AigNode) (e : Edge) → Extends old new → Stands old e → value_of bits new e ≡ value_of bits old e
-value_of-extends bits old new e more stands = ap (flip e.inverted) (built_at-extends (node_of bits) false old new e.node more stands)
+value_of-extends bits old new e more stands = ap (flip e.inverted) (value_at-extends bits old new e.node more stands)
 
 -- the value of a node at the end
 pub value_of-pushed : (bits : List Bool) (old new : List AigNode) (n : AigNode) (e : Edge) → new ≡ old ++ n ∷ [] → length old ≡ e.node → value_of bits new e ≡ flip e.inverted (node_of bits (values_of bits old) n)
-value_of-pushed bits old new n e is place = ap (flip e.inverted) (built_at-pushed (node_of bits) false old new n e.node is place)
-
--- equal bits
-same_bit : (a b : Bool) → beq a b ≡ true → a ≡ b
-same_bit true true h = refl
-same_bit false false h = refl
-same_bit true false h = absurd cc
-same_bit false true h = absurd cc
-
-itself_bit : (a : Bool) → beq a a ≡ true
-itself_bit true = refl
-itself_bit false = refl
+value_of-pushed bits old new n e is place = ap (flip e.inverted) (value_at-push bits old new n e.node is place)
 
 -- edges that test as the same are equal
 same_edge_is : (x y : Edge) → same_edge x y ≡ true → x ≡ y
 same_edge_is x y h =
-    let parts = both (x.node == y.node) (beq x.inverted y.inverted) h in
+    let parts = and_parts (x.node == y.node) (beq x.inverted y.inverted) h in
     let node : x.node ≡ y.node = eqb-true x.node y.node parts.0 in
-    let inverted : x.inverted ≡ y.inverted = same_bit x.inverted y.inverted parts.1 in
+    let inverted : x.inverted ≡ y.inverted = (booleans_Decides x.inverted y.inverted).0 parts.1 in
     ap (λ (n : ℕ). record { node = n; inverted = x.inverted }) node ∙ ap (λ (b : Bool). record { node = y.node; inverted = b }) inverted
 
 pub edge_itself : (x : Edge) → same_edge x x ≡ true
-edge_itself x = rw (eq-eqb x.node x.node refl) (itself_bit x.inverted)
+edge_itself x = rw (eq-eqb x.node x.node refl) ((booleans_Decides x.inverted x.inverted).1 refl)
 
 -- pairs that test as the same are equal
 pub same_pair_is : (p q : Pair) → same_pair p q ≡ true → p ≡ q
 same_pair_is p q h =
-    let parts = both (same_edge p.first q.first) (same_edge p.second q.second) h in
+    let parts = and_parts (same_edge p.first q.first) (same_edge p.second q.second) h in
     ap (λ (f : Edge). record { first = f; second = p.second }) (same_edge_is p.first q.first parts.0) ∙ ap (λ (s : Edge). record { first = q.first; second = s }) (same_edge_is p.second q.second parts.1)
 
 pub pair_itself : (p : Pair) → same_pair p p ≡ true

@@ -1,12 +1,11 @@
 -- Circuits: lists of nodes, children before parents, and the values of their edges.
-use Rattle.std.specs.Prelude.{◌≡◌, ◌<◌, ◌+◌, ◌^◌, ◌&&◌, ℕ, Bool, false, not, if◌then◌else◌, List, [], ◌∷◌, ◌==◌, ◌⊎◌, length, take, slice_index_or, slice_get, nat_lt, Some}
+use Rattle.std.specs.Prelude.{◌≡◌, ◌<◌, ◌+◌, ◌^◌, ◌&&◌, ℕ, Bool, false, not, if◌then◌else◌, List, [], ◌∷◌, ◌++◌, ◌==◌, ◌⊎◌, length, take, slice_index_or, slice_get, nat_lt, Some}
 use Rattle.std.specs.Bool.{beq}
 use Rattle.std.specs.declared.option.Option.{Option}
 use Rattle.kn_aig.specs.declared.gates.Edge.{Edge}
 use Rattle.kn_aig.specs.declared.gates.Pair.{Pair}
 use Rattle.kn_aig.specs.declared.gates.AigNode.{AigNode}
 use Rattle.kn_aig.specs.declared.gates.AigNode.TheVariants as nodes
-use Rattle.kn_built.specs.Built.{built, Extends}
 
 -- a value, negated where the edge is inverted
 abbrev pub flip : Bool → Bool → Bool
@@ -26,9 +25,14 @@ node_of bits vs nodes.Constant = false
 node_of bits vs (nodes.Input i) = slice_index_or bits i false
 node_of bits vs (nodes.And x y) = edge_of vs x && edge_of vs y
 
+-- the values of nodes behind nodes that have these values
+abbrev pub values_behind : List Bool → List Bool → List AigNode → List Bool
+values_behind bits vs [] = []
+values_behind bits vs (n ∷ ns) = node_of bits vs n ∷ values_behind bits (vs ++ node_of bits vs n ∷ []) ns
+
 -- the values of all nodes
 abbrev pub values_of : List Bool → List AigNode → List Bool
-values_of bits ns = built (node_of bits) ns
+values_of bits ns = values_behind bits [] ns
 
 -- an edge's value in a circuit, by the inputs
 abbrev pub value_of : List Bool → List AigNode → Edge → Bool
@@ -57,6 +61,10 @@ AllFit ns = (k : ℕ) (n : AigNode) → slice_get ns k ≡ Some n → Fits ns k 
 -- the constant is the first node, and each node may stand where it is
 abbrev pub IsCircuit : List AigNode → Type 0
 IsCircuit ns = (slice_get ns 0 ≡ Some nodes.Constant) × AllFit ns
+
+-- the new circuit begins with the old one
+abbrev pub Extends : List AigNode → List AigNode → Type 0
+Extends old new = (more : List AigNode) × (new ≡ old ++ more)
 
 -- the edge names a node of the circuit
 abbrev pub Stands : List AigNode → Edge → Type 0

@@ -2,8 +2,7 @@
 
 ghost use Rattle.std.specs.Prelude.{◌≡◌, ◌≤◌, ◌<◌, ◌+◌, ◌^◌, ◌&&◌, ◌∷◌, [], ◌++◌, ℕ, Bool, List, IfOk, OnOk, OnErr, Some, true, false, not, length, vec_len, vec_capacity, slice_get, if◌then◌else◌, slice_index_or};
 ghost use Rattle.std.specs.HashMap.{get, spare};
-ghost use Rattle.kn_built.specs.Built.{Extends};
-ghost use Rattle.kn_aig.specs.Circuits.{differ, value_of, inputs_of, Fits, Stands, IsAnd, IsKnown, IsCircuit, AllFit, IsIndex, IsWithin, same_pair, edge_of, node_of, values_of};
+ghost use Rattle.kn_aig.specs.Circuits.{differ, value_of, inputs_of, Fits, Extends, Stands, IsAnd, IsKnown, IsCircuit, AllFit, IsIndex, IsWithin, same_pair, edge_of, node_of, values_of};
 
 use crate::gates::{AigNode, Edge, Pair, and_gate};
 use std::alloc::{AllocError, Global};

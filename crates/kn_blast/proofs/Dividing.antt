@@ -46,9 +46,6 @@ pub record Parts (n y q r k : ℕ) : Type 0 where
   pub below : 0 < y → r < y
   pub ones : y ≡ 0 → q + 1 ≡ 2 ^ k
 
-pub parts_begun : (y : ℕ) → Parts 0 y 0 0 0
-parts_begun y = record { whole = omega arith; below = λ h. h; ones = λ h. refl }
-
 -- one more step
 pub parts_more : (n y q r k : ℕ) (b : Bool) → Parts n y q r k → one_if b + 2 * n < 65536
     → Parts (one_if b + 2 * n) y (one_if (not (nat_lt (one_if b + 2 * r) y)) + 2 * q) ((if nat_lt (one_if b + 2 * r) y then one_if b + 2 * r else one_if b + 2 * r - y) % 65536) (k + 1)

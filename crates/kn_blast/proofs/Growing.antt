@@ -2,8 +2,8 @@
 use Rattle.std.proofs.Common.{◌≡◌, ℕ, ◌<◌, Bool, true, false, not, ◌&&◌, List, length, refl, ap, sym, subst, ◌∙◌, arith}
 use Rattle.std.specs.Prelude.{◌||◌, min, max, Result, Ok, Err, IfOk}
 use Rattle.kn_word.specs.Words.{one_if, one_of}
-use Rattle.kn_built.specs.Built.{Extends}
-use Rattle.kn_built.proofs.BuiltLaws.{extends-same, extends-twice, length-extends}
+use Rattle.kn_aig.specs.Circuits.{Extends}
+use Rattle.kn_aig.proofs.Values.{extends_same, extends_twice, length_extends}
 use Rattle.kn_aig.specs.declared.gates.Edge.{Edge}
 use Rattle.kn_aig.specs.declared.gates.AigNode.{AigNode}
 use Rattle.kn_aig.specs.Circuits.{flip, differ, value_of, inputs_of, Stands}
@@ -12,14 +12,14 @@ use Rattle.kn_aig.proofs.Chains.{longer as edge_longer}
 use Rattle.kn_blast.specs.Spelling.{Grows, Has}
 
 pub grows_same : (ns : List AigNode) → Grows ns ns
-grows_same ns = record { extends = extends-same ns; inputs = refl }
+grows_same ns = record { extends = extends_same ns; inputs = refl }
 
 -- a circuit that is the same did not become longer
 pub grows_is : (old new : List AigNode) → new ≡ old → Grows old new
-grows_is old new e = record { extends = subst (Extends old) (sym e) (extends-same old); inputs = ap inputs_of e }
+grows_is old new e = record { extends = subst (Extends old) (sym e) (extends_same old); inputs = ap inputs_of e }
 
 pub grows_twice : (a b c : List AigNode) → Grows a b → Grows b c → Grows a c
-grows_twice a b c f g = record { extends = extends-twice a b c f.extends g.extends; inputs = g.inputs ∙ f.inputs }
+grows_twice a b c f g = record { extends = extends_twice a b c f.extends g.extends; inputs = g.inputs ∙ f.inputs }
 
 pub grows_made : (a b : List AigNode) → Extends a b → inputs_of b ≡ inputs_of a → Grows a b
 grows_made a b e f = record { extends = e; inputs = f }
@@ -33,7 +33,7 @@ stands_kept a b e g s = edge_longer a b e g.extends s
 
 -- a place stays in a longer circuit
 pub longer : (a b : List AigNode) (place : ℕ) → Grows a b → place < length a → place < length b
-longer a b place g h = omega (arith, h, length-extends a b g.extends)
+longer a b place g h = omega (arith, h, length_extends a b g.extends)
 
 flip_not : (i b : Bool) → flip (not i) b ≡ not (flip i b)
 flip_not true true = refl

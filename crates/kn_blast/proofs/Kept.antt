@@ -1,6 +1,6 @@
 -- What callers need to know of a map and a word of edges where their circuit became longer.
 use Rattle.std.proofs.Common.{List}
-use Rattle.kn_built.specs.Built.{Extends}
+use Rattle.kn_aig.specs.Circuits.{Extends}
 use Rattle.kn_aig.specs.declared.gates.AigNode.{AigNode}
 use Rattle.kn_blast.specs.declared.inputs.InputBits.{InputBits}
 use Rattle.kn_blast.specs.Spelling.{Grows}

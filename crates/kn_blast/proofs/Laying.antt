@@ -2,14 +2,13 @@
 use Rattle.std.proofs.Common.{◌≡◌, ℕ, zero, suc, ◌+◌, ◌-◌, ◌*◌, ◌<◌, ◌≤◌, ◌%◌, ◌^◌, Bool, true, false, cond, ◌&&◌, List, [], ◌∷◌, ◌++◌, length, drop, get_or, Some, refl, ap, sym, subst, ◌∙◌, arith, inl, inr, length-append}
 use Rattle.std.specs.Prelude.{None, slice_get, slice_index_or, nat_eq, nat_lt, min}
 use Rattle.std.specs.List.{AllByRecursion}
-use Rattle.std.proofs.lemmas.Bool.{eqb-true, eq-eqb, cases_lt}
+use Rattle.std.proofs.lemmas.Bool.{and_parts, eqb-true, eq-eqb, cases_lt}
 use Rattle.std.proofs.lemmas.Option.{slice_get-get_or, slice_get_within, get_or_from_slice_get}
 use Rattle.std.proofs.Math.Nat.{pow-suc}
 use Rattle.std.proofs.Math.Pow.{pow-add}
 use Rattle.std.proofs.lemmas.Nat.{mod-mul-add}
 use Rattle.std.proofs.lemmas.List.{append_assoc, append-nil, drop_more}
-use Rattle.kn_built.proofs.BuiltLaws.{built_at-row}
-use Rattle.kn_built.proofs.Deciding.{both_true}
+use Rattle.kn_aig.proofs.Values.{value_at}
 use Rattle.kn_built.proofs.Sorted.{All-each}
 use Rattle.kn_aig.specs.declared.gates.AigNode.{AigNode}
 use Rattle.kn_aig.specs.declared.gates.AigNode.TheVariants as nodes
@@ -21,7 +20,7 @@ use Rattle.kn_term.proofs.Entries.{absent}
 use Rattle.kn_blast.specs.declared.inputs.InputBits.{InputBits}
 use Rattle.kn_blast.proofs.Numbers.{has_is}
 use Rattle.kn_blast.specs.Spelling.{weight, Has}
-use Rattle.kn_blast.specs.Inputs.{width_of, bits_of, IsBefore, AreInputBits, word_before, given_by, IsGivenBy, BeginsWithInputs, HasOnlyInputs, laid_out}
+use Rattle.kn_blast.specs.Inputs.{width_of, bits_of, IsBefore, AreInputBits, word_before, given_by, BeginsWithInputs, HasOnlyInputs, laid_out}
 
 get_front : (xs ys : List AigNode) (k : ℕ) → k < length xs → slice_get (xs ++ ys) k ≡ slice_get xs k
 get_front [] ys k h = absurd (omega (arith, h))
@@ -73,7 +72,7 @@ input_has ns count i all h =
     let within : 1 + i < length ns = slice_get_within ns (1 + i) (nodes.Input i) is in
     record {
       stands = within;
-      value = λ bits. built_at-row (node_of bits) false ns (1 + i) nodes.Constant within ∙ ap (node_of bits _) (get_or_from_slice_get ns (1 + i) (nodes.Input i) nodes.Constant is);
+      value = λ bits. value_at bits ns (1 + i) nodes.Constant within ∙ ap (node_of bits _) (get_or_from_slice_get ns (1 + i) (nodes.Input i) nodes.Constant is);
     }
 
 -- the widths that are laid out
@@ -92,7 +91,7 @@ narrow_rest : (g : Given) (a : Valuation) → AreEntries (g ∷ a) → ((n k : �
 narrow_rest g a h narrow n k = go (nat_eq g.node n && nat_eq g.index k) refl where
   go : (b : Bool) → (nat_eq g.node n && nat_eq g.index k) ≡ b → listed a n k ≤ 16
   go true e =
-      let s = both_true (nat_eq g.node n) (nat_eq g.index k) e in
+      let s = and_parts (nat_eq g.node n) (nat_eq g.index k) e in
       let moved : (x : Given) → Precedes g x → precedes n k x.node x.index ≡ true = λ x p. rw (← eqb-true g.node n s.0, ← eqb-true g.index k s.1) p in
       omega (arith, absent n k a (All-each (Precedes g) (λ (x : Given). precedes n k x.node x.index ≡ true) moved a h.1))
   go false e = subst (λ (v : ℕ). v ≤ 16) (ap (λ (b : Bool). cond b g.word (listed a n k)) e) (narrow n k)
@@ -148,26 +147,6 @@ entry_bits first (suc place) (f ∷ es) e h is =
 -- one more bit of a word
 pub word_before-more : (bits : List Bool) (lowest place : ℕ) → word_before bits lowest (place + 1) ≡ word_before bits lowest place + weight (slice_index_or bits (lowest - place) false) place
 word_before-more bits lowest place = let next : place + 1 ≡ suc place = omega arith in ap (word_before bits lowest) next
-
--- words of all entries from a place on
-pub given_more : (bits : List Bool) (es : List InputBits) (place : ℕ) (e : InputBits) (w : ℕ) (old new : Valuation) → slice_get es place ≡ Some e → w ≡ word_before bits e.lowest e.width
-    → listed new e.node e.index ≡ w → ((n k : ℕ) → ((n ≡ e.node) × (k ≡ e.index) → ⊥) → listed new n k ≡ listed old n k)
-    → IsGivenBy bits (drop (place + 1) es) old → IsGivenBy bits (drop place es) new
-given_more bits es place e w old new is word own others all n k =
-    let within : place < length es = slice_get_within es place e is in
-    let front : drop place es ≡ e ∷ drop (place + 1) es = drop_more es place e within ∙ ap (λ (f : InputBits). f ∷ drop (place + 1) es) (get_or_from_slice_get es place e e is) in
-    go (nat_eq e.node n && nat_eq e.index k) refl ∙ sym (ap (λ (xs : List InputBits). listed (given_by bits xs) n k) front)
-  where
-    go : (b : Bool) → (nat_eq e.node n && nat_eq e.index k) ≡ b → listed new n k ≡ listed (given_by bits (e ∷ drop (place + 1) es)) n k
-    go true t =
-        let s = both_true (nat_eq e.node n) (nat_eq e.index k) t in
-        ap (λ (m : ℕ). listed new m k) (sym (eqb-true e.node n s.0)) ∙ (ap (listed new e.node) (sym (eqb-true e.index k s.1)) ∙ (own ∙ (word ∙ sym (ap (λ (b : Bool). cond b (word_before bits e.lowest e.width) (listed (given_by bits (drop (place + 1) es)) n k)) t))))
-    go false t =
-        let other : (n ≡ e.node) × (k ≡ e.index) → ⊥ = λ same. differ n k same.0 same.1 t in
-        others n k other ∙ (all n k ∙ sym (ap (λ (b : Bool). cond b (word_before bits e.lowest e.width) (listed (given_by bits (drop (place + 1) es)) n k)) t))
-      where
-        differ : (n k : ℕ) → n ≡ e.node → k ≡ e.index → (nat_eq e.node n && nat_eq e.index k) ≡ false → ⊥
-        differ n k p q t = grind (arith, p, q, t)
 
 -- the lowest bits of a word
 pub word_before-lt : (bits : List Bool) (lowest width : ℕ) → word_before bits lowest width < 2 ^ width

@@ -103,10 +103,6 @@ constant_has (n ∷ ns) b is =
     plain true = refl
     plain false = refl
 
--- no edges spell 0
-pub spells_none : (ns : List AigNode) (m : List Bool → ℕ) → ((bits : List Bool) → m bits ≡ 0) → Spells ns [] 0 m
-spells_none ns m z = record { stand = AllStand-none ns; many = refl; value = λ bits. sym (z bits) }
-
 -- one more edge behind those that spell a number
 pub spells_push : (a b : List AigNode) (es : List Edge) (e : Edge) (i : ℕ) (m n : List Bool → ℕ) → Grows a b → Spells a es i m → Stands b e
     → ((bits : List Bool) → m bits + weight (value_of bits b e) i ≡ n bits) → Spells b (es ++ e ∷ []) (i + 1) n
@@ -117,15 +113,6 @@ spells_push a b es e i m n g s se step = record {
       number-push bits b es e
       ∙ (ap (λ (k : ℕ). number bits b es + weight (value_of bits b e) k) s.many
       ∙ (ap (λ (k : ℕ). k + weight (value_of bits b e) i) (number-kept bits a b es g s.stand ∙ s.value bits) ∙ step bits));
-}
-
--- one more edge in front
-pub spells_first : (a b : List AigNode) (es : List Edge) (e : Edge) (i : ℕ) (m n : List Bool → ℕ) → Grows a b → Spells a es i m → Stands b e
-    → ((bits : List Bool) → one_if (value_of bits b e) + 2 * m bits ≡ n bits) → Spells b (e ∷ es) (i + 1) n
-spells_first a b es e i m n g s se step = record {
-  stand = AllStand-first b e es se (AllStand-kept a b es g s.stand);
-  many = omega (arith, s.many);
-  value = λ bits. ap (λ (k : ℕ). one_if (value_of bits b e) + 2 * k) (number-kept bits a b es g s.stand ∙ s.value bits) ∙ step bits;
 }
 
 -- what a word was, where its edge is read in a longer circuit

@@ -4,7 +4,7 @@ use Rattle.kn_word.specs.Words.{one_if, one_of}
 use Rattle.kn_aig.specs.declared.gates.Edge.{Edge}
 use Rattle.kn_aig.specs.declared.gates.AigNode.{AigNode}
 use Rattle.kn_aig.specs.Circuits.{value_of, inputs_of, Stands}
-use Rattle.kn_built.specs.Built.{Extends}
+use Rattle.kn_aig.specs.Circuits.{Extends}
 use Rattle.kn_blast.specs.declared.gates.Gate.{Gate}
 use Rattle.kn_blast.specs.declared.gates.Gate.TheVariants as gates
 

@@ -6,7 +6,6 @@ mod circuit;
 mod division;
 mod gates;
 mod inputs;
-mod marks;
 mod nodes;
 mod opening;
 mod operators;

@@ -1,27 +1,13 @@
 -- Formulas, lines and logs are equal exactly where `==` says so.
-use Rattle.std.proofs.Common.{◌≡◌, ℕ, Bool, true, false, ◌&&◌, eqb, List, [], ◌∷◌, map, Vec, Global, refl, sym, subst, ◌∙◌, ap}
+use Rattle.std.proofs.Common.{◌≡◌, ℕ, Bool, true, ◌&&◌, eqb, List, [], ◌∷◌, map, Vec, Global, refl, sym, subst, ◌∙◌, ap}
 use Rattle.std.specs.Bool.{Decides, beq}
-use Rattle.std.proofs.lemmas.Bool.{eqb-true, eq-eqb}
+use Rattle.std.specs.Cmp.{booleans_Decides}
+use Rattle.std.proofs.lemmas.Bool.{and_parts, eqb-true, eq-eqb}
 use Rattle.std.proofs.lemmas.Bool.Decides.{Decides-eqb}
 use Rattle.std.specs.Cmp.Lexicographic.{pointwise}
 use Rattle.std.proofs.lemmas.Slice.Eq.{slice_eq-Decides}
 use Rattle.kn_cnf.specs.declared.clauses.Lit.{Lit}
 use Rattle.kn_cnf.specs.Formulas.{Formula, Step, items_of}
-
-both_true : (a b : Bool) → (a && b) ≡ true → (a ≡ true) × (b ≡ true)
-both_true true true h = (refl, refl)
-both_true true false h = (refl, cc)
-both_true false b h = absurd cc
-
-same_bit : (a b : Bool) → beq a b ≡ true → a ≡ b
-same_bit true true h = refl
-same_bit false false h = refl
-same_bit true false h = absurd cc
-same_bit false true h = absurd cc
-
-itself_bit : (a : Bool) → beq a a ≡ true
-itself_bit true = refl
-itself_bit false = refl
 
 -- what `==` tests of two literals
 abbrev pub same_lit : Lit → Lit → Bool
@@ -29,11 +15,11 @@ same_lit l m = eqb l.var m.var && beq l.neg m.neg
 
 same_lit_is : (l m : Lit) → same_lit l m ≡ true → l ≡ m
 same_lit_is l m h =
-    let parts = both_true (eqb l.var m.var) (beq l.neg m.neg) h in
-    ap (λ (n : ℕ). record { var = n; neg = l.neg }) (eqb-true l.var m.var parts.0) ∙ ap (λ (b : Bool). record { var = m.var; neg = b }) (same_bit l.neg m.neg parts.1)
+    let parts = and_parts (eqb l.var m.var) (beq l.neg m.neg) h in
+    ap (λ (n : ℕ). record { var = n; neg = l.neg }) (eqb-true l.var m.var parts.0) ∙ ap (λ (b : Bool). record { var = m.var; neg = b }) ((booleans_Decides l.neg m.neg).0 parts.1)
 
 lit_itself : (l : Lit) → same_lit l l ≡ true
-lit_itself l = rw (eq-eqb l.var l.var refl) (itself_bit l.neg)
+lit_itself l = rw (eq-eqb l.var l.var refl) ((booleans_Decides l.neg l.neg).1 refl)
 
 pub lit_decides : (l m : Lit) → Decides (same_lit l m) (l ≡ m)
 lit_decides l m = (same_lit_is l m, λ same. subst (λ (k : Lit). same_lit l k ≡ true) same (lit_itself l))
@@ -44,7 +30,7 @@ lits_decide xs ys = slice_eq-Decides lit_decides xs ys _ refl
 -- two tests that decide two parts decide the whole
 both_decide : {P Q R : Type 0} (a b r : Bool) → Decides a P → Decides b Q → r ≡ (a && b) → (P → Q → R) → (R → P) → (R → Q) → Decides r R
 both_decide a b r da db is make first second = (
-  λ h. let parts = both_true a b (sym is ∙ h) in make (da.0 parts.0) (db.0 parts.1),
+  λ h. let parts = and_parts a b (sym is ∙ h) in make (da.0 parts.0) (db.0 parts.1),
   λ h. is ∙ (ap (λ (x : Bool). x && b) (da.1 (first h)) ∙ db.1 (second h)),
 )
 

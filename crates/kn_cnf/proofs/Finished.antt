@@ -190,10 +190,6 @@ module _ (ns : List AigNode) (root : Edge) (circuit : IsCircuit ns) (is_constant
       let same : bits_of v ns ≡ bits = bits_agree v 0 (inputs_of ns) bits count (λ j h. let e : 0 + j ≡ j = omega arith in ap v e) in
       (v, same, constant_met v root.inverted (sym (root_value bits) ∙ is))
 
-  pub constant_below : (i : Bool) → AreBelow (inputs_of ns) (constant_clauses i)
-  constant_below true = tt
-  constant_below false = (tt, tt)
-
 abbrev pub formula : ℕ → List (List Lit) → Formula
 formula n cs = record { vars = n; clauses = cs }
 

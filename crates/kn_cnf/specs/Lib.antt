@@ -2,5 +2,7 @@
 pub mod Formulas
 pub mod Truth
 pub mod Units
+pub mod States
+pub mod Good
 pub mod Encoding
 pub mod SoFar

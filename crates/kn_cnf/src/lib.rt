@@ -4,10 +4,12 @@
 mod clauses;
 mod encoding;
 mod logs;
+mod states;
 
 pub use clauses::{Clause, Cnf, Lit};
 pub use encoding::of_aig;
 pub use logs::{Line, Log};
+pub use states::ClauseState;
 pub use std::alloc::AllocError as Memory;
 
 #[cfg(test)]

@@ -2,7 +2,7 @@
 use Rattle.std.proofs.Common.{◌≡◌, ℕ, zero, suc, ◌<◌, get_or, Bool, List, [], ◌∷◌, ◌++◌, take, length, Option, Some, None, refl, sym, subst, ◌∙◌, arith}
 use Rattle.std.specs.Prelude.{Contains}
 use Rattle.kn_model.specs.Terms.{Term, terms}
-use Rattle.kn_model.specs.Histories.{Event}
+use Rattle.kn_packet.specs.declared.packet.Event.{Event}
 use Rattle.kn_model.specs.Due.{due}
 use Rattle.kn_model.specs.Conditions.{Condition, that, IsLive}
 use Rattle.kn_model.specs.Paths.{Path, path_of, event_paths, event_ways, paths_of, here_at, first_way, begun}

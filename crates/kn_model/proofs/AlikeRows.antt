@@ -8,14 +8,16 @@ use Rattle.kn_code.specs.declared.program.Instr.{Instr}
 use Rattle.kn_code.specs.declared.program.Instr.TheVariants as instrs
 use Rattle.kn_code.specs.Code.{Code}
 use Rattle.kn_model.specs.Values.{Literal, Values}
-use Rattle.kn_model.specs.Histories.{Event, Boot, Reboot, Mail, Timer}
+use Rattle.kn_packet.specs.declared.packet.Event.{Event}
+use Rattle.kn_packet.specs.declared.packet.Event.TheVariants.{Boot, Reboot, Packet as Mail, Timer}
 use Rattle.kn_model.specs.Packets.{Packet, packet_le, below_or, first_at, without_first}
 use Rattle.kn_model.specs.Nodes.{State, Outcome, Halted, Failed, FailKind, Assert, Bounds, Fuel, is_running, zeros}
 use Rattle.kn_model.specs.Nets.{Network, Link}
 use Rattle.kn_model.specs.Due.{due, left, how_many, is_set_to, has, comes_at, or_else, mail_of, timer_from}
 use Rattle.kn_model.specs.Rows.{Here, Way, Effect, Goes, Stops, Decides, effect, register, with_register, with_memory, with_timer, with_outcome, failed, next, counted, fresh_input, sent_on, sent_over, sends_over, link_at, span, element, with_element, payload_of, sender_of, packet_on, sets, operate, in_range}
 use Rattle.kn_model.specs.Paths.{goes_if, goes_by, decided, splits, after, one_way, effect_of, effect_at, ways, runs_from, runs, chooses, is_no, cleared, with_loss, doubled, arrives, comes, begun, event_ways, mail_in, here_at, first_way, path_of, event_paths}
-use Rattle.kn_model.specs.Alikes.{Key, key_of, OneByOne, WaitsAlike, SentAlike, StateAlike, PathAlike}
+use Rattle.kn_model.specs.Alikes.{OneByOne, WaitsAlike, SentAlike, StateAlike, PathAlike}
+use Rattle.kn_model.specs.Packets.{Key, key_of}
 use Rattle.kn_model.proofs.OneByOne.{pairs-append, pairs-take, pairs-drop, pairs-get, pairs-set, pairs-length, pairs-put, pairs-map}
 
 -- what a comparison has to keep: each value that a row makes, each literal that it decides by, and conditions that are joined

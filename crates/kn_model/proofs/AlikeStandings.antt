@@ -14,7 +14,9 @@ use Rattle.std.proofs.lemmas.List.{length-map}
 use Rattle.std.proofs.lemmas.List.Sums.{sum_by-cons}
 use Rattle.kn_word.specs.Words.{val}
 use Rattle.kn_model.specs.Terms.{Term, Word, Input, Apply, Choice, Valuation, listed, input_word, chosen_word, ev, word_holds}
-use Rattle.kn_model.specs.Conditions.{Condition, Read, holds, literal_holds, reads_in, reads_of, read_cmp, put_before, put_read, widest, that, IsSmall, IsFar, IsLeast, Standing, StandsFor, Inputs, Open, AreWords, AreDistinct, listing, valuation_of, ComesBefore, MeetsWith}
+use Rattle.kn_model.specs.Conditions.{Condition, Read, holds, literal_holds, reads_in, reads_of, read_cmp, put_before, put_read, widest, that, IsSmall, IsFar, IsLeast, StandsFor, AreWords, AreDistinct, listing, valuation_of, ComesBefore, MeetsWith}
+use Rattle.kn_cond.specs.declared.standing.Standing.{Standing}
+use Rattle.kn_cond.specs.declared.standing.Standing.TheVariants.{Inputs, Open}
 use Rattle.kn_model.proofs.Implied.{all-contains}
 use Rattle.kn_model.proofs.LeastInputs.{Under, under_on, Place, place, sorted_widest}
 use Rattle.kn_model.specs.Alikes.{ConditionAlike}

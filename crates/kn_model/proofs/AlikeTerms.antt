@@ -7,7 +7,7 @@ use Rattle.kn_word.specs.Words.{val}
 use Rattle.kn_word.specs.declared.Op.{Op}
 use Rattle.kn_model.specs.Terms.{Term, Word, Input, Apply, Choice, Valuation, terms, words, ev, chosen_word, word_holds}
 use Rattle.kn_model.specs.Packets.{Packet}
-use Rattle.kn_model.specs.Histories.{Event}
+use Rattle.kn_packet.specs.declared.packet.Event.{Event}
 use Rattle.kn_model.specs.Nodes.{State}
 use Rattle.kn_model.specs.Nets.{Network}
 use Rattle.kn_model.specs.Conditions.{Condition, Read, holds, reads_in, reads_of, literal_holds}

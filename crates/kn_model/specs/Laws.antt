@@ -6,7 +6,8 @@ use Rattle.kn_code.specs.declared.program.Instr.{Instr}
 use Rattle.kn_code.specs.declared.program.Instr.TheVariants as instrs
 use Rattle.kn_code.specs.Code.{Code}
 use Rattle.kn_model.specs.Terms.{Term, Valuation, terms, words}
-use Rattle.kn_model.specs.Histories.{Event, History, followed}
+use Rattle.kn_model.specs.Histories.{History, followed}
+use Rattle.kn_packet.specs.declared.packet.Event.{Event}
 use Rattle.kn_model.specs.Packets.{Packet, Parcel, put_all, packet_le}
 use Rattle.kn_model.specs.Nodes.{State, Node}
 use Rattle.kn_model.specs.Nets.{Network, Link}
@@ -14,13 +15,14 @@ use Rattle.kn_model.specs.Due.{due, held, left}
 use Rattle.kn_model.specs.Paths.{Path, event_paths, paths}
 use Rattle.kn_model.specs.Limits.{IsPrefix}
 use Rattle.kn_model.specs.Scenarios.{Scenario, name_of, cob, copies, finish, receive, node_at, settled}
-use Rattle.kn_model.specs.Conditions.{Condition, holds, that, that_with, IsImpossible, IsLeast, IsSmall, IsFar, Standing, StandsFor, IsLive}
+use Rattle.kn_model.specs.Conditions.{Condition, holds, that, that_with, IsImpossible, IsLeast, IsSmall, IsFar, StandsFor, IsLive}
+use Rattle.kn_cond.specs.declared.standing.Standing.{Standing}
 use Rattle.kn_model.specs.Deciding.{IsPlain, clashes, forced}
 use Rattle.kn_model.specs.Concrete.{concrete, scenario_under, path_under, state_under}
 use Rattle.kn_model.specs.Reports.{Rises, trace_cmp, ends, pick_condition}
 use Rattle.kn_model.specs.Replays.{node_of, own_of}
 use Rattle.kn_model.specs.Alikes.{MetAt, seen, OneByOne, Alike, AlikePath, AlikeSend, AlikeRun, AlikeRunPath, ConditionAlike, AreGiven}
-use Rattle.kn_model.specs.Picks.{SameItems}
+use Rattle.kn_built.specs.Picks.{SameItems}
 use Rattle.kn_model.specs.Least.{IsFirst}
 
 -- a state with these packets in its queue

@@ -6,11 +6,11 @@ use Rattle.std.proofs.lemmas.List.{map-append, length-map}
 use Rattle.kn_cnf.specs.declared.clauses.Lit.{Lit}
 use Rattle.kn_cnf.specs.Formulas.{Step}
 use Rattle.kn_cnf.specs.Truth.{Meets}
-use Rattle.kn_unsat.specs.Good.{IsGood, AreGood, Checks}
-use Rattle.kn_unsat.proofs.Sound.{good_follows, meets_more}
+use Rattle.kn_cnf.specs.Good.{IsGood, AreGood, Checks}
+use Rattle.kn_cnf.proofs.Sound.{good_follows, meets_more}
 use Rattle.kn_sat.specs.declared.trail.Assigned.{Assigned}
 use Rattle.kn_sat.specs.Trails.{latest, bit, IsTrail, IsFlipped, undecided, reasons_of}
-use Rattle.kn_sat.specs.Standings.{IsConflict, Stands}
+use Rattle.kn_sat.specs.Propagating.{IsConflict, Stands}
 use Rattle.kn_sat.specs.Order.{IsClosed}
 use Rattle.kn_sat.proofs.Numbers.{later_lt}
 use Rattle.kn_sat.proofs.Lines.{good_line}

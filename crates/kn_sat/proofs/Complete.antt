@@ -11,10 +11,10 @@ use Rattle.kn_cnf.specs.Formulas.{AreBelow}
 use Rattle.kn_cnf.specs.Truth.{lit_true, clause_true, all_true, Meets}
 use Rattle.kn_cnf.specs.Units.{valued, lit_value, Has, IsFalse, IsUnit, HasClause, IsPropagated, IsRefuted, assigned_from, IsDecided}
 use Rattle.kn_cnf.proofs.Spreading.{assigned_value, assigned_none}
-use Rattle.kn_unsat.proofs.Steps.{same_or_not}
+use Rattle.kn_cnf.proofs.Literals.{same_or_not}
 use Rattle.kn_sat.specs.declared.trail.Assigned.{Assigned}
 use Rattle.kn_sat.specs.Trails.{latest, bit}
-use Rattle.kn_sat.specs.Standings.{AreCalm, AreAssigned}
+use Rattle.kn_sat.specs.Propagating.{AreCalm, AreAssigned}
 use Rattle.kn_sat.proofs.Numbers.{length-bits_from}
 use Rattle.kn_sat.proofs.Trails.{valued_own, valued_other, valued_clash, lit_kept}
 

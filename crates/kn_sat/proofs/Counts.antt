@@ -9,7 +9,7 @@ use Rattle.kn_cnf.specs.Units.{valued, IsUnit}
 use Rattle.kn_sat.specs.declared.trail.Assigned.{Assigned}
 use Rattle.kn_sat.specs.declared.trail.Reason.TheVariants as reasons
 use Rattle.kn_sat.specs.Trails.{latest, IsTrail, IsGrown, open_count, count_open}
-use Rattle.kn_sat.specs.Standings.{AreAssigned}
+use Rattle.kn_sat.specs.Propagating.{AreAssigned}
 use Rattle.kn_sat.proofs.Trails.{valued_own, valued_other, valued_kept, var_opens, onto_more, trail_more, clause_kept}
 
 one_at_most : (o : Option Bool) → open_count o ≤ 1
@@ -41,14 +41,6 @@ count_less (suc k) ls l h opens = elim (cases_eq l.var k) [
 module _ (cs : List (List Lit)) (vars : ℕ) where
   pub grown_same : (es : List Assigned) → IsGrown cs vars es es
   grown_same es = record { trail = λ ds n t. t; kept = λ q b is. is; count = refl; longer = omega arith }
-
-  pub grown_twice : (a b c : List Assigned) → IsGrown cs vars a b → IsGrown cs vars b c → IsGrown cs vars a c
-  grown_twice a b c g h = record {
-    trail = λ ds n t. h.trail ds n (g.trail ds n t);
-    kept = λ q v is. h.kept q v (g.kept q v is);
-    count = h.count ∙ g.count;
-    longer = omega (arith, g.longer, h.longer);
-  }
 
   -- by the open literal of a unit clause
   pub grown_unit : (old new : List Assigned) (c : List Lit) (l : Lit) (h : ℕ) → slice_get cs h ≡ Some c → IsUnit (latest old) c l → l.var < vars → new ≡ old ++ record { literal = l; reason = reasons.Clause h } ∷ [] → IsGrown cs vars old new

@@ -4,12 +4,12 @@ use Rattle.std.specs.Prelude.{Some, None, slice_get, if◌then◌else◌, unwrap
 use Rattle.std.specs.Option.{option_map}
 use Rattle.kn_cnf.specs.declared.clauses.Lit.{Lit}
 use Rattle.kn_cnf.specs.Units.{negated, valued, lit_value, Has, IsUnit}
-use Rattle.kn_unsat.proofs.Steps.{has_more, has_last}
+use Rattle.kn_cnf.proofs.Literals.{has_more, has_last}
 use Rattle.kn_sat.specs.declared.trail.Assigned.{Assigned}
 use Rattle.kn_sat.specs.declared.trail.Reason.{Reason}
 use Rattle.kn_sat.specs.declared.trail.Reason.TheVariants as reasons
 use Rattle.kn_sat.specs.Trails.{onto, latest, bit, IsDecision, IsTrail, IsFlipped, undecided, with_decision}
-use Rattle.kn_sat.specs.Standings.{AreAssigned}
+use Rattle.kn_sat.specs.Propagating.{AreAssigned}
 use Rattle.kn_sat.proofs.Numbers.{Later}
 use Rattle.kn_sat.proofs.Trails.{valued_own, valued_other, lit_opens, onto_kept, onto_more, onto_append, trail_front, trail_more, trail_kept}
 

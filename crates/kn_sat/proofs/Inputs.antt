@@ -8,7 +8,7 @@ use Rattle.kn_cnf.specs.declared.clauses.Lit.{Lit}
 use Rattle.kn_cnf.specs.Encoding.{bits_from}
 use Rattle.kn_cnf.specs.Units.{valued, lit_value}
 use Rattle.kn_sat.specs.Trails.{bit}
-use Rattle.kn_sat.specs.Standings.{AreAssigned}
+use Rattle.kn_sat.specs.Propagating.{AreAssigned}
 
 -- the value of the literal that is a variable
 pub plain_value : (ls : List Lit) (q : ℕ) → lit_value ls (record { var = q; neg = false }) ≡ valued ls q

@@ -5,8 +5,8 @@ use Rattle.std.specs.declared.option.Option.{Option}
 use Rattle.std.proofs.lemmas.Bool.{cases_eq}
 use Rattle.kn_cnf.specs.declared.clauses.Lit.{Lit}
 use Rattle.kn_cnf.specs.Units.{negated, valued, Has, IsFalse, IsUnit}
-use Rattle.kn_unsat.specs.Good.{falsified, Refutes, IsGood}
-use Rattle.kn_unsat.proofs.Falsified.{twice}
+use Rattle.kn_cnf.specs.Good.{falsified, Refutes, IsGood}
+use Rattle.kn_cnf.proofs.Literals.{twice}
 use Rattle.kn_sat.specs.declared.trail.Assigned.{Assigned}
 use Rattle.kn_sat.specs.declared.trail.Reason.{Reason}
 use Rattle.kn_sat.specs.declared.trail.Reason.TheVariants as reasons

@@ -5,8 +5,8 @@ use Rattle.std.proofs.lemmas.Bool.{cases_Bool}
 use Rattle.kn_cnf.specs.declared.clauses.Lit.{Lit}
 use Rattle.kn_cnf.specs.Truth.{lit_true, clause_true, Meets}
 use Rattle.kn_cnf.specs.Units.{valued, IsFalse, IsUnit}
-use Rattle.kn_unsat.proofs.Sound.{AllTrue, valued_so, valued_has, false_under, true_literal, met_at}
-use Rattle.kn_unsat.proofs.Steps.{same_or_not}
+use Rattle.kn_cnf.proofs.Sound.{AllTrue, valued_so, valued_has, false_under, true_literal, met_at}
+use Rattle.kn_cnf.proofs.Literals.{same_or_not}
 use Rattle.kn_sat.specs.declared.trail.Assigned.{Assigned}
 use Rattle.kn_sat.specs.declared.trail.Reason.{Reason}
 use Rattle.kn_sat.specs.declared.trail.Reason.TheVariants as reasons

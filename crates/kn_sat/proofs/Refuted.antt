@@ -10,10 +10,10 @@ use Rattle.kn_cnf.specs.Units.{valued, IsDecided}
 use Rattle.kn_sat.specs.declared.trail.Assigned.{Assigned}
 use Rattle.kn_sat.specs.declared.trail.Reason.TheVariants as reasons
 use Rattle.kn_sat.specs.Trails.{latest, bit, IsTrail, IsGrown, count_open}
-use Rattle.kn_sat.specs.Standings.{AreCalm, AreAssigned, IsConflict, Stands}
+use Rattle.kn_sat.specs.Propagating.{AreCalm, AreAssigned, IsConflict, Stands}
 use Rattle.kn_sat.specs.Order.{number, spelled, Extends, AreRefuted}
 use Rattle.kn_cnf.specs.Truth.{AreNeverMet}
-use Rattle.kn_unsat.proofs.Sound.{never_met}
+use Rattle.kn_cnf.proofs.Sound.{never_met}
 use Rattle.kn_sat.specs.declared.searching.Found.{Found}
 use Rattle.kn_sat.specs.declared.searching.Found.TheVariants as found
 use Rattle.kn_sat.specs.Answers.{Answers, OnClosed}

@@ -2,7 +2,7 @@
 use Rattle.std.specs.Prelude.{◌≡◌, ◌<◌, ◌^◌, ⊤, ℕ, Bool, List, length}
 use Rattle.kn_cnf.specs.declared.clauses.Lit.{Lit}
 use Rattle.kn_cnf.specs.Formulas.{Step}
-use Rattle.kn_unsat.specs.Good.{Checks}
+use Rattle.kn_cnf.specs.Good.{Checks}
 use Rattle.kn_sat.specs.declared.searching.Found.{Found}
 use Rattle.kn_sat.specs.declared.searching.Found.TheVariants as found
 use Rattle.kn_sat.specs.Order.{number, Extends, AreRefuted}

@@ -1,6 +1,6 @@
 -- The definitions of trails, of propagation, and of the order of assignments.
 pub mod Trails
-pub mod Standings
+pub mod Propagating
 pub mod Occurrences
 pub mod Order
 pub mod Answers

@@ -6,7 +6,7 @@ use Rattle.kn_cnf.specs.Truth.{Meets}
 use Rattle.kn_cnf.specs.Encoding.{bits_from}
 use Rattle.kn_sat.specs.declared.trail.Assigned.{Assigned}
 use Rattle.kn_sat.specs.Trails.{latest, bit}
-use Rattle.kn_sat.specs.Standings.{AreAssigned, Stands}
+use Rattle.kn_sat.specs.Propagating.{AreAssigned, Stands}
 
 -- the number that bits spell, the first one highest: as many assignments come before, false before true
 abbrev pub number : List Bool → ℕ

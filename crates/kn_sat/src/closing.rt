@@ -2,9 +2,9 @@
 
 ghost use Rattle.std.specs.Prelude.{◌≡◌, ◌<◌, ◌++◌, ◌∷◌, [], ℕ, IfOk, MatchOption, map};
 ghost use Rattle.kn_cnf.specs.Formulas.{items_of};
-ghost use Rattle.kn_unsat.specs.Good.{Checks};
+ghost use Rattle.kn_cnf.specs.Good.{Checks};
 ghost use Rattle.kn_sat.specs.Trails.{undecided, reasons_of, IsFlipped};
-ghost use Rattle.kn_sat.specs.Standings.{IsConflict, Stands};
+ghost use Rattle.kn_sat.specs.Propagating.{IsConflict, Stands};
 ghost use Rattle.kn_sat.specs.Order.{IsClosed};
 
 use crate::trail::{Assigned, Reason, Trail};

@@ -4,68 +4,42 @@ ghost use Rattle.std.specs.Prelude.{◌≡◌, ◌<◌, ◌++◌, ◌∷◌, [],
 ghost use Rattle.std.specs.List.{AllByRecursion};
 ghost use Rattle.kn_cnf.specs.declared.clauses.Lit.{Lit};
 ghost use Rattle.kn_cnf.specs.Formulas.{items_of, AreBelow};
-ghost use Rattle.kn_cnf.specs.Units.{lit_value};
+ghost use Rattle.kn_cnf.specs.States.{IsState};
 ghost use Rattle.kn_sat.specs.Trails.{latest, IsGrown};
-ghost use Rattle.kn_sat.specs.Standings.{Means, IsConflict, IsVisited, IsScanned, IsSettled, IsFirstOpen, AreAssigned};
+ghost use Rattle.kn_sat.specs.Propagating.{IsConflict, IsVisited, IsScanned, IsSettled, IsFirstOpen, AreAssigned};
 
 use crate::occurrences::Occurrences;
 use crate::trail::{Reason, Trail};
-use kn_cnf::{Clause, Lit};
+use kn_cnf::{Clause, ClauseState, Lit};
 use std::alloc::AllocError;
 
-/// How a clause stands on a trail.
-#[derive(Clone, Copy, Debug)]
-pub(crate) enum Standing {
-    /// Each literal is false.
-    False,
-    /// This literal is open, and each other one is false.
-    Unit(Lit),
-    /// A literal is true, or two are open.
-    Other,
-}
-
-/// How a clause stands with a literal more, which has this value.
-fn with_literal(standing: Standing, value: Option<bool>, l: Lit) -> Standing
-    ensures { (ls xs : List Lit) → value ≡ lit_value ls l → Means ls xs standing → Means ls (xs ++ l ∷ []) result }
-{
-    match value {
-        Some(true) => Standing::Other,
-        Some(false) => standing,
-        None => match standing {
-            Standing::False => Standing::Unit(l),
-            Standing::Unit(m) => if m == l { standing } else { Standing::Other },
-            Standing::Other => Standing::Other,
-        },
-    }
-}
-
 /// How a clause stands on the trail.
-fn standing_of(trail: &Trail, clause: &[Lit]) -> Standing
-    ensures { Means (latest trail.now.entries) clause.now result }
+fn state_of(trail: &Trail, clause: &[Lit]) -> ClauseState
+    ensures { IsState (latest trail.now.entries) clause.now result }
 {
-    let mut standing = Standing::False;
+    let mut state = ClauseState::False;
     for l in clause {
-        standing = with_literal(standing, trail.value(*l), *l);
-        if let Standing::Other = standing {
-            return Standing::Other;
+        state = state.with_literal(*l, trail.value(*l));
+        if let ClauseState::Other = state {
+            return ClauseState::Other;
         }
     }
-    standing
+    state
 }
 
 /// Assigns the open literal of the clause with this number, if it is unit. The answer is how the clause stood.
-fn visit(trail: &mut Trail, clauses: &[Clause], number: usize) -> Result<Standing, AllocError>
+fn visit(trail: &mut Trail, clauses: &[Clause], number: usize) -> Result<ClauseState, AllocError>
     requires below { AreBelow trail.old.vars (map items_of clauses.now) }
     requires number { number < length clauses.now }
     ensures vars { trail.new.vars ≡ trail.old.vars }
     ensures grown { OnOk result (IsGrown (map items_of clauses.now) trail.old.vars trail.old.entries trail.new.entries) }
     ensures visited { IfOk result (IsVisited (map items_of clauses.now) number trail.old.entries trail.new.entries) }
 {
-    let standing = standing_of(trail, &clauses[number]);
-    if let Standing::Unit(l) = standing {
+    let state = state_of(trail, &clauses[number]);
+    if let ClauseState::Unit(l) = state {
         trail.assign(l, Reason::Clause(number))?;
     }
-    Ok(standing)
+    Ok(state)
 }
 
 /// Visits the clauses with these numbers, up to the first false one. The answer is its number.
@@ -81,7 +55,7 @@ fn visit_each(
     ensures conflict { IfOk result (λ o. IfSome o (IsConflict (map items_of clauses.now) trail.new.entries)) }
 {
     for number in numbers {
-        if let Standing::False = visit(trail, clauses, *number)? {
+        if let ClauseState::False = visit(trail, clauses, *number)? {
             return Ok(Some(*number));
         }
     }
@@ -138,9 +112,9 @@ fn visit_all(trail: &mut Trail, clauses: &[Clause]) -> Result<Scan, AllocError>
     let mut calm = true;
     for number in 0..clauses.len() {
         match visit(trail, clauses, number)? {
-            Standing::False => return Ok(Scan::Conflict(number)),
-            Standing::Unit(_) => calm = false,
-            Standing::Other => {}
+            ClauseState::False => return Ok(Scan::Conflict(number)),
+            ClauseState::Unit(_) => calm = false,
+            ClauseState::Other => {}
         }
     }
     Ok(if calm { Scan::Calm } else { Scan::Grown })

@@ -5,7 +5,7 @@ ghost use Rattle.kn_cnf.specs.Encoding.{bits_from};
 ghost use Rattle.kn_cnf.specs.Formulas.{items_of, AreBelow};
 ghost use Rattle.kn_cnf.specs.Truth.{AreNeverMet};
 ghost use Rattle.kn_cnf.specs.Units.{IsDecided};
-ghost use Rattle.kn_unsat.specs.Good.{Checks};
+ghost use Rattle.kn_cnf.specs.Good.{Checks};
 ghost use Rattle.kn_sat.specs.Trails.{latest, bit};
 ghost use Rattle.kn_sat.specs.Order.{number, Extends, AreRefuted};
 ghost use Rattle.kn_sat.specs.Answers.{OnModel, OnClosed, OnSpent, Answers};

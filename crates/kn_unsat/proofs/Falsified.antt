@@ -7,19 +7,12 @@ use Rattle.std.proofs.lemmas.Bool.{cases_Bool, eq-eqb}
 use Rattle.std.proofs.lemmas.List.{take-append-drop}
 use Rattle.kn_cnf.specs.declared.clauses.Lit.{Lit}
 use Rattle.kn_cnf.specs.Units.{negated, valued, lit_value, Has}
-use Rattle.kn_unsat.specs.Good.{falsified, HasBoth}
-use Rattle.kn_unsat.proofs.Steps.{has_more, has_front, has_last}
-use Rattle.kn_unsat.proofs.Sound.{valued_has}
+use Rattle.kn_cnf.specs.Good.{falsified, HasBoth}
+use Rattle.kn_cnf.proofs.Literals.{twice, has_more, has_front, has_last}
+use Rattle.kn_cnf.proofs.Sound.{valued_has}
 
 abbrev literal : ℕ → Bool → Lit
 literal q n = record { var = q; neg = n }
-
-pub not_not : (b : Bool) → not (not b) ≡ b
-not_not true = refl
-not_not false = refl
-
-pub twice : (l : Lit) → negated (negated l) ≡ l
-twice l = ap (literal l.var) (not_not l.neg)
 
 not_own : (b : Bool) → b ≡ not b → ⊥
 not_own true e = cc

@@ -3,10 +3,10 @@ use Rattle.std.proofs.Common.{◌≡◌, ℕ, List, [], ◌∷◌, refl, sym, su
 use Rattle.std.specs.Prelude.{Some, None, slice_get}
 use Rattle.kn_cnf.specs.declared.clauses.Lit.{Lit}
 use Rattle.kn_cnf.specs.Units.{Has, IsFalse, IsUnit}
-use Rattle.kn_unsat.specs.declared.standing.Standing.TheVariants as standings
-use Rattle.kn_unsat.specs.Standings.{Means}
-use Rattle.kn_unsat.specs.Good.{Refutes}
-use Rattle.kn_unsat.proofs.Steps.{open_false, same_or_not}
+use Rattle.kn_cnf.specs.declared.states.ClauseState.TheVariants as states
+use Rattle.kn_cnf.specs.States.{IsState}
+use Rattle.kn_cnf.specs.Good.{Refutes}
+use Rattle.kn_cnf.proofs.Literals.{open_false, same_or_not}
 
 -- one place has one clause
 same_clause : (cs : List (List Lit)) (h : ℕ) (c d : List Lit) → slice_get cs h ≡ Some c → slice_get cs h ≡ Some d → c ≡ d
@@ -40,6 +40,6 @@ refutes_unit cs ls c h (k ∷ hs) l at u = (
 )
 
 -- another clause refutes nothing
-pub refutes_other : (cs : List (List Lit)) (ls c : List Lit) (h : ℕ) (hs : List ℕ) → slice_get cs h ≡ Some c → Means ls c standings.Other → Refutes cs ls (h ∷ hs) → ⊥
+pub refutes_other : (cs : List (List Lit)) (ls c : List Lit) (h : ℕ) (hs : List ℕ) → slice_get cs h ≡ Some c → IsState ls c states.Other → Refutes cs ls (h ∷ hs) → ⊥
 refutes_other cs ls c h [] at m r = m.0 (subst (λ (d : List Lit). IsFalse ls d) (same_clause cs h r.0 c r.1 at) r.2)
 refutes_other cs ls c h (k ∷ hs) at m r = m.1 r.1 (subst (λ (d : List Lit). IsUnit ls d r.1) (same_clause cs h r.0 c r.2 at) r.3)

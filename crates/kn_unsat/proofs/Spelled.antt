@@ -1,15 +1,12 @@
 -- Words, and what a line's text is taken apart into.
-use Rattle.std.proofs.Common.{◌≡◌, ◌≢◌, ℕ, ◌+◌, ◌*◌, ◌<◌, ◌≤◌, ◌^◌, Bool, true, false, List, [], ◌∷◌, ◌++◌, length, take, drop, get_or, refl, ap, sym, subst, ◌∙◌, arith, append_assoc, append-nil, length-append}
+use Rattle.std.proofs.Common.{◌≡◌, ◌≢◌, ℕ, ◌+◌, ◌<◌, ◌≤◌, ◌^◌, Bool, true, false, List, [], ◌∷◌, ◌++◌, length, take, drop, get_or, refl, ap, sym, subst, ◌∙◌, arith, append_assoc, append-nil, length-append}
 use Rattle.std.specs.Prelude.{Some, None, flat_map, if◌then◌else◌}
 use Rattle.std.specs.Fmt.{decimal}
-use Rattle.std.specs.Char.{digit_value}
-use Rattle.std.specs.Int.{IsInRange}
 use Rattle.std.specs.List.{AllByRecursion}
-use Rattle.std.specs.Str.Parse.{AllDigits, digits_value, digits_value_after}
+use Rattle.std.specs.Str.Parse.{AllDigits}
 use Rattle.std.proofs.lemmas.Fmt.{decimal_is_IsNumeral_wide}
-use Rattle.std.proofs.lemmas.Str.Parse.{digit_from_value, digit_at, digits_value-take-le}
-use Rattle.std.proofs.lemmas.Bool.{lt-ltb, le-ltb}
-use Rattle.std.proofs.lemmas.List.{take_more, drop_more, take-append-drop}
+use Rattle.std.proofs.lemmas.Str.Parse.{digit_from_value}
+use Rattle.std.proofs.lemmas.List.{take_more, take-append-drop}
 use Rattle.std.proofs.Math.Seq.{take-append_seam, drop-append_seam}
 use Rattle.std.proofs.lemmas.List.Concat.{flat_map-cons}
 use Rattle.kn_cnf.specs.declared.clauses.Lit.{Lit}
@@ -31,9 +28,6 @@ decimal_digits n h = (decimal_is_IsNumeral_wide n (omega (arith, h))).0.1
 pub decimal_some : (n : ℕ) → n ≤ 2 ^ 64 → 0 < length (decimal n)
 decimal_some n h = (decimal_is_IsNumeral_wide n (omega (arith, h))).0.0
 
-pub decimal_value : (n : ℕ) → n ≤ 2 ^ 64 → digits_value 10 (decimal n) ≡ n
-decimal_value n h = (decimal_is_IsNumeral_wide n (omega (arith, h))).1
-
 -- digits are not bytes below 48
 digits_without : (b : ℕ) (ds : List ℕ) → b < 48 → AllDigits 10 ds → Without b ds
 digits_without b [] h d = tt
@@ -47,9 +41,6 @@ without_append b (x ∷ xs) ys p q = (p.0, without_append b xs ys p.1 q)
 pub without_more : (b : ℕ) (text : List ℕ) (place : ℕ) → place < length text → Without b (take place text) → get_or text place 0 ≢ b → Without b (take (place + 1) text)
 without_more b text place inside so_far other =
     subst (Without b) (sym (take_more text place 0 inside)) (without_append b (take place text) (get_or text place 0 ∷ []) so_far (other, tt))
-
-pub begins_here : (b : ℕ) (text : List ℕ) (place : ℕ) → place < length text → get_or text place 0 ≡ b → BeginsWith b (drop place text)
-begins_here b text place inside is = subst (BeginsWith b) (sym (drop_more text place 0 inside)) is
 
 -- the heads and the tails of equal lists
 pub head_is : (x y : ℕ) (xs ys : List ℕ) → x ∷ xs ≡ y ∷ ys → x ≡ y
@@ -161,27 +152,6 @@ module _ (hs done rest word after : List ℕ) where
           let cut = cut_once 32 word after (decimal h) (flat_map hint_word ts) w b (hint_without 32 h (omega arith) s.0) (hints_begin ts) (tail_is 32 32 _ _ (sym is ∙ apart)) in
           (h, s.0, cut.0, (ts, e ∙ sym (append_assoc done (h ∷ []) ts), s.1, cut.1))
 
--- the number of one digit more
-value_push : (n : ℕ) (ds : List ℕ) (c : ℕ) → digits_value_after 10 n (ds ++ c ∷ []) ≡ digits_value_after 10 n ds * 10 + digit_value c
-value_push n [] c = refl
-value_push n (d ∷ ds) c = value_push (n * 10 + digit_value d) ds c
-
-digit_is : (d : ℕ) → d < 10 → digit_value (48 + d) ≡ d
-digit_is d h = rw (le-ltb (48 + d) 48 (omega arith), lt-ltb (48 + d) 58 (omega arith)) (omega arith)
-
-pub value_more : (ds : List ℕ) (i d number : ℕ) → i < length ds → get_or ds i 0 ≡ 48 + d → d < 10 → number ≡ digits_value 10 (take i ds) → number * 10 + d ≡ digits_value 10 (take (i + 1) ds)
-value_more ds i d number inside is small so_far =
-    let more = ap (digits_value 10) (take_more ds i 0 inside) ∙ value_push 0 (take i ds) (get_or ds i 0) in
-    let digit : digit_value (get_or ds i 0) ≡ d = ap digit_value is ∙ digit_is d small in
-    omega (arith, more, digit, so_far)
-
--- what is spelled by digits so far is at most the number
-pub value_below : (ds : List ℕ) (i n : ℕ) → n ≤ 2 ^ 64 → ds ≡ decimal n → digits_value 10 (take i ds) ≤ 2 ^ 64
-value_below ds i n h is = omega (arith, digits_value-take-le 10 ds i (omega arith), ap (digits_value 10) is, decimal_value n h, h)
-
-pub digit_here : (ds : List ℕ) (i n : ℕ) → n ≤ 2 ^ 64 → ds ≡ decimal n → i < length ds → IsInRange 48 57 (get_or ds i 0)
-digit_here ds i n h is inside = digit_at ds i (subst (AllDigits 10) (sym is) (decimal_digits n h)) inside
-
 -- the sign of a literal and its digits
 pub signed_minus : (word : List ℕ) (l : Lit) → l.var < 2 ^ 64 → word ≡ literal_text l → get_or word 0 0 ≡ 45 → (true ≡ l.neg) × (drop 1 word ≡ decimal (l.var + 1))
 signed_minus word l small is minus = go l.neg is
@@ -193,17 +163,6 @@ signed_minus word l small is minus = go l.neg is
     go : (n : Bool) → word ≡ (if n then 45 ∷ [] else []) ++ decimal (l.var + 1) → (true ≡ n) × (drop 1 word ≡ decimal (l.var + 1))
     go true e = (refl, ap (drop 1) e)
     go false e = absurd (digits_first (decimal (l.var + 1)) (decimal_digits (l.var + 1) (omega (arith, small))) (sym (ap (λ (w : List ℕ). get_or w 0 0) e) ∙ minus))
-
-pub signed_none : (word : List ℕ) (l : Lit) → word ≡ literal_text l → get_or word 0 0 ≢ 45 → (false ≡ l.neg) × (word ≡ decimal (l.var + 1))
-signed_none word l is no_minus = go l.neg is
-  where
-    go : (n : Bool) → word ≡ (if n then 45 ∷ [] else []) ++ decimal (l.var + 1) → (false ≡ n) × (word ≡ decimal (l.var + 1))
-    go true e = absurd (no_minus (ap (λ (w : List ℕ). get_or w 0 0) e))
-    go false e = (refl, e)
-
--- the text of a literal is not empty
-pub literal_some : (word : List ℕ) (l : Lit) → l.var < 2 ^ 64 → word ≡ literal_text l → 0 < length word
-literal_some word l small is = omega (arith, ap length is, length-append (if l.neg then 45 ∷ [] else []) (decimal (l.var + 1)), decimal_some (l.var + 1) (omega (arith, small)))
 
 literals_without : (b : ℕ) (c : List Lit) → b < 32 → AllByRecursion (λ (m : Lit). m.var < 2 ^ 64) c → Without b (flat_map literal_word c)
 literals_without b [] low s = tt

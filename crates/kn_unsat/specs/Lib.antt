@@ -1,6 +1,5 @@
--- The definitions of good lines.
-pub mod Good
-pub mod Standings
+-- The definitions of what is assigned while a line is checked, and of the text of logs.
+pub mod Assigned
 pub mod Text
 pub mod Reading
 pub mod Words

@@ -5,11 +5,11 @@ ghost use Rattle.std.specs.Bool.{MatchBool};
 ghost use Rattle.kn_cnf.specs.declared.clauses.Lit.{Lit};
 ghost use Rattle.kn_cnf.specs.Formulas.{items_of};
 ghost use Rattle.kn_cnf.specs.Truth.{AreNeverMet};
-ghost use Rattle.kn_unsat.specs.Standings.{Assigns};
-ghost use Rattle.kn_unsat.specs.Good.{HasBoth, falsified, Refutes, IsGood, EndsEmpty, Checks, before};
+ghost use Rattle.kn_unsat.specs.Assigned.{Assigns};
+ghost use Rattle.kn_cnf.specs.Good.{HasBoth, falsified, Refutes, IsGood, EndsEmpty, Checks, before};
 
-use crate::standing::{Standing, is_true, standing_of};
-use kn_cnf::{Clause, Cnf, Line, Lit, Log};
+use crate::assigned::{is_true, state_of};
+use kn_cnf::{Clause, ClauseState, Cnf, Line, Lit, Log};
 use std::alloc::{AllocError, Global};
 use std::collections::HashMap;
 
@@ -83,12 +83,12 @@ fn follow(
         let Some(clause) = named(clauses, earlier, *hint) else {
             return Ok(false);
         };
-        match standing_of(assigned, clause) {
-            Standing::False => return Ok(place + 1 == hints.len()),
-            Standing::Unit(l) => {
+        match state_of(assigned, clause) {
+            ClauseState::False => return Ok(place + 1 == hints.len()),
+            ClauseState::Unit(l) => {
                 assigned.insert(l.var, !l.neg)?;
             }
-            Standing::Other => return Ok(false),
+            ClauseState::Other => return Ok(false),
         }
     }
     Ok(false)

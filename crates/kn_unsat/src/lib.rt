@@ -1,9 +1,9 @@
 //! The checker of logs, and their text.
 #![tactic(auto)]
 
+mod assigned;
 mod checking;
 mod reading;
-mod standing;
 mod writing;
 
 pub use checking::check;

@@ -195,31 +195,16 @@ fn hint_of(word: &[u8]) -> Option<usize>
     }
 }
 
-/// The number that digits spell, at most 2^64. Where they spell none, the answer is any number or None.
+/// The number that digits spell. Where they spell none, the answer is any number or None.
 fn number_of(digits: &[u8]) -> Option<u128>
     ensures { (n : ℕ) → n ≤ 2 ^ 64 → digits.now ≡ decimal n → result ≡ Some n }
 {
-    let mut number: u128 = 0;
-    for byte in digits {
-        let Some(digit) = digit_of(*byte) else {
-            return None;
-        };
-        if number > u64::MAX as u128 + 1 {
-            return None;
-        }
-        number = number * 10 + digit as u128;
-    }
-    Some(number)
-}
-
-/// What a digit stands for, or None for another byte.
-fn digit_of(byte: u8) -> Option<u8>
-    ensures { MatchOption result (48 ≤ byte → byte ≤ 57 → ⊥) (λ d. (byte ≡ 48 + d) × (d < 10)) }
-{
-    if byte >= b'0' && byte <= b'9' {
-        Some(byte - b'0')
-    } else {
-        None
+    let Ok(text) = str::from_utf8(digits) else {
+        return None;
+    };
+    match u128::from_str_radix(text, 10) {
+        Ok(number) => Some(number),
+        Err(_) => None,
     }
 }
 

@@ -7,7 +7,7 @@ use Rattle.kn_model.specs.Scenarios.{Scenario, name_of, node_at}
 use Rattle.kn_model.specs.Conditions.{Condition, Query, StandsFor, that, that_with, holds, IsLeast, IsFar}
 use Rattle.kn_model.specs.Concrete.{concrete}
 use Rattle.kn_model.specs.Laws.{IsNet}
-use Rattle.kn_model.specs.Picks.{picks}
+use Rattle.kn_built.specs.Picks.{picks}
 use Rattle.kn_model.specs.Reports.{Report, StateLine, Reach, Undecided, Nowhere, ends, IsLine, Shows, Names, IsPick, all_picks, trace_at, pick_name, NodeIn, own_at, AllOwnsOf, IsQuery, MeetsPick, HasNoPick, pick_condition, IsReached, ReachIs, IsFailure, IsFailedState, Gives}
 use Rattle.kn_worked.specs.Networks.{is, is_not, i, o}
 use Rattle.kn_worked.specs.Reports.{crossing, copied_told, input, sender, passing, failing, NowhereGiven, NowhereNotOpen}

@@ -4,7 +4,9 @@ use Rattle.std.specs.Prelude.{Contains, slice_get, slice_index_or, flat_map, not
 use Rattle.std.specs.List.{AllByRecursion}
 use Rattle.std.proofs.lemmas.List.{length-set}
 use Rattle.kn_model.specs.Terms.{Term, Input, terms}
-use Rattle.kn_model.specs.Histories.{History, Event, Boot, Done, AndRan}
+use Rattle.kn_model.specs.Histories.{History, Done, AndRan}
+use Rattle.kn_packet.specs.declared.packet.Event.{Event}
+use Rattle.kn_packet.specs.declared.packet.Event.TheVariants.{Boot}
 use Rattle.kn_model.specs.Nodes.{Node}
 use Rattle.kn_model.specs.Nets.{Network, opening_node, no_plan}
 use Rattle.kn_model.specs.Due.{due, left}

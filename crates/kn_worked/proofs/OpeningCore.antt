@@ -7,7 +7,8 @@ use Rattle.kn_model.specs.Histories.{gots, Done}
 use Rattle.kn_model.specs.Packets.{Parcel, stamp_of}
 use Rattle.kn_model.specs.Nodes.{Node}
 use Rattle.kn_model.specs.Scenarios.{Scenario, name_of, opening, cob, node_at}
-use Rattle.kn_model.specs.Conditions.{that, StandsFor, Inputs, AreDistinct, holds}
+use Rattle.kn_model.specs.Conditions.{that, StandsFor, AreDistinct, holds}
+use Rattle.kn_cond.specs.declared.standing.Standing.TheVariants.{Inputs}
 use Rattle.kn_model.specs.Alikes.{Alike}
 use Rattle.kn_model.specs.Replays.{record_of, SameSet, node_of, own_of}
 use Rattle.kn_model.specs.Cores.{Held, StateView, DstateView, IsSame, AreSameNodes, finished, picked, state_at, IsPlaced, FitsColumns, boxes}

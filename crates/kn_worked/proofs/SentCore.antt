@@ -3,12 +3,15 @@ use Rattle.std.proofs.Common.{◌≡◌, ◌⊎◌, inl, inr, ℕ, zero, suc, �
 use Rattle.std.specs.Prelude.{Contains, slice_get, slice_index_or, flat_map}
 use Rattle.std.specs.List.{AllByRecursion}
 use Rattle.kn_model.specs.Terms.{Term, Input, terms}
-use Rattle.kn_model.specs.Histories.{Event, Boot, Reboot, gots, Done}
+use Rattle.kn_model.specs.Histories.{gots, Done}
+use Rattle.kn_packet.specs.declared.packet.Event.{Event}
+use Rattle.kn_packet.specs.declared.packet.Event.TheVariants.{Boot, Reboot}
 use Rattle.kn_model.specs.Packets.{Parcel, stamp_of}
 use Rattle.kn_model.specs.Nodes.{Node}
 use Rattle.kn_model.specs.Due.{due}
 use Rattle.kn_model.specs.Scenarios.{Scenario, name_of, opening, cob, node_at, turns, settled_from}
-use Rattle.kn_model.specs.Conditions.{that, StandsFor, Inputs, AreDistinct}
+use Rattle.kn_model.specs.Conditions.{that, StandsFor, AreDistinct}
+use Rattle.kn_cond.specs.declared.standing.Standing.TheVariants.{Inputs}
 use Rattle.kn_model.specs.Alikes.{Alike, MetAt}
 use Rattle.kn_model.specs.Replays.{record_of, SameSet, node_of, own_of}
 use Rattle.kn_model.specs.Cores.{Held, StateView, DstateView, CoreView, IsSame, finished, picked, state_at, IsPlaced, FitsColumns, HaveOneRecord, boxes, RunsIn}

@@ -2,10 +2,11 @@
 use Rattle.std.proofs.Common.{◌≡◌, ℕ, zero, suc, ◌+◌, Bool, true, false, List, [], ◌∷◌, Some, refl, sym, ap, subst, ◌∙◌, arith}
 use Rattle.std.specs.Prelude.{Contains, slice_get, slice_index_or}
 use Rattle.kn_model.specs.Terms.{Term}
-use Rattle.kn_model.specs.Histories.{History, Boot, Done, AndRan, AndGot}
+use Rattle.kn_model.specs.Histories.{History, Done, AndRan, AndGot}
+use Rattle.kn_packet.specs.declared.packet.Event.TheVariants.{Boot}
 use Rattle.kn_model.specs.Nodes.{Node, Running}
 use Rattle.kn_model.specs.Scenarios.{Scenario}
-use Rattle.kn_model.specs.Conditions.{Inputs}
+use Rattle.kn_cond.specs.declared.standing.Standing.TheVariants.{Inputs}
 use Rattle.kn_model.specs.Replays.{record_of}
 use Rattle.kn_model.specs.Reports.{Report, StateLine, ends, IsLine, IsPick, Names, HistoryIs}
 use Rattle.kn_worked.specs.OneTick.{halves}

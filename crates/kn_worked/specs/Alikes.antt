@@ -3,7 +3,7 @@ use Rattle.std.specs.List.{AllByRecursion}
 use Rattle.std.specs.Prelude.{ℕ, true, List, [], ◌∷◌, replicate, Some, None, slice_index_or}
 use Rattle.kn_word.specs.declared.Op.TheVariants as ops
 use Rattle.kn_model.specs.Terms.{Term, Word, Input, Apply, Choice, terms}
-use Rattle.kn_model.specs.Histories.{Boot}
+use Rattle.kn_packet.specs.declared.packet.Event.TheVariants.{Boot}
 use Rattle.kn_model.specs.Packets.{Packet}
 use Rattle.kn_model.specs.Nodes.{State, Halted, state_of}
 use Rattle.kn_model.specs.Paths.{Path, event_paths}

@@ -1,11 +1,14 @@
 -- What a core stands for, on small cores: one that stands, and others that differ from it in one thing and do not.
 use Rattle.std.specs.Prelude.{ℕ, Bool, List, [], ◌∷◌, Option, Some, None}
 use Rattle.kn_model.specs.Terms.{Term, Word, Input, Valuation, terms}
-use Rattle.kn_model.specs.Histories.{Event, Boot, Reboot, History, Done, AndRan}
+use Rattle.kn_model.specs.Histories.{History, Done, AndRan}
+use Rattle.kn_packet.specs.declared.packet.Event.{Event}
+use Rattle.kn_packet.specs.declared.packet.Event.TheVariants.{Boot, Reboot}
 use Rattle.kn_model.specs.Packets.{Parcel}
 use Rattle.kn_model.specs.Nets.{Network}
 use Rattle.kn_model.specs.Scenarios.{Scenario, opening, node_at, cob}
-use Rattle.kn_model.specs.Conditions.{Standing, Inputs, Open}
+use Rattle.kn_cond.specs.declared.standing.Standing.{Standing}
+use Rattle.kn_cond.specs.declared.standing.Standing.TheVariants.{Inputs, Open}
 use Rattle.kn_model.specs.Limits.{LimitAt, Dstates}
 use Rattle.kn_model.specs.Replays.{node_of}
 use Rattle.kn_model.specs.Cores.{Held, StateView, DstateView, CoreView, Stands}

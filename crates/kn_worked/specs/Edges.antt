@@ -4,7 +4,9 @@ use Rattle.std.specs.declared.cmp.Ordering.{Ordering}
 use Rattle.std.specs.declared.cmp.Ordering.TheVariants.{Less}
 use Rattle.kn_code.specs.declared.program.Instr.TheVariants as instrs
 use Rattle.kn_model.specs.Terms.{Term, Word, Input, Given, Valuation, terms}
-use Rattle.kn_model.specs.Histories.{Event, Boot, Reboot, Mail, Timer, History, Done, AndRan, AndGot, history_cmp}
+use Rattle.kn_model.specs.Histories.{History, Done, AndRan, AndGot, history_cmp}
+use Rattle.kn_packet.specs.declared.packet.Event.{Event}
+use Rattle.kn_packet.specs.declared.packet.Event.TheVariants.{Boot, Reboot, Packet as Mail, Timer}
 use Rattle.kn_model.specs.Nodes.{State, Node, Running, Halted, Failed, Outcome, Bounds, Assert, Fuel, state_of}
 use Rattle.kn_code.specs.Code.{Code}
 use Rattle.kn_model.specs.Packets.{Packet}

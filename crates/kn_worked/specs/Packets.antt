@@ -4,7 +4,7 @@ use Rattle.kn_code.specs.declared.program.Instr.{Instr}
 use Rattle.kn_code.specs.declared.program.Instr.TheVariants as instrs
 use Rattle.kn_code.specs.Code.{Code}
 use Rattle.kn_model.specs.Terms.{Term, Word, Input, terms}
-use Rattle.kn_model.specs.Histories.{Boot, Mail, Timer}
+use Rattle.kn_packet.specs.declared.packet.Event.TheVariants.{Boot, Packet as Mail, Timer}
 use Rattle.kn_model.specs.Packets.{Packet}
 use Rattle.kn_model.specs.Nodes.{State, Node, Outcome, Running, Halted, Failed, Assert, Fuel, state_of}
 use Rattle.kn_model.specs.Nets.{Network}

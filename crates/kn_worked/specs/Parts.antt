@@ -1,11 +1,13 @@
 -- The other definitions on the worked networks: runs, replays, picks, reads.
 use Rattle.std.specs.Prelude.{◌≡◌, ℕ, Bool, List, [], ◌∷◌, map, filter, Option, Some, None, slice_index_or}
 use Rattle.kn_model.specs.Terms.{Term, Valuation, terms}
-use Rattle.kn_model.specs.Histories.{Event, Boot, Reboot, Mail}
+use Rattle.kn_packet.specs.declared.packet.Event.{Event}
+use Rattle.kn_packet.specs.declared.packet.Event.TheVariants.{Boot, Reboot, Packet as Mail}
 use Rattle.kn_model.specs.Nodes.{Node}
 use Rattle.kn_model.specs.Nets.{Network}
 use Rattle.kn_model.specs.Scenarios.{Scenario, name_of, node_at}
-use Rattle.kn_model.specs.Conditions.{holds, that, bits_of, Inputs}
+use Rattle.kn_model.specs.Conditions.{holds, that, bits_of}
+use Rattle.kn_cond.specs.declared.standing.Standing.TheVariants.{Inputs}
 use Rattle.kn_model.specs.Concrete.{concrete, scenario_under, Happened, events}
 use Rattle.kn_model.specs.Cores.{CoreView, StateView, nodes_from, all_picked}
 use Rattle.kn_worked.specs.Networks.{last, lossy, rebooting, net_of, ifsend, idle, plain, link, i, bit}

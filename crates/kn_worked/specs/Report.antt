@@ -3,7 +3,7 @@ use Rattle.std.specs.Prelude.{[], ◌∷◌}
 use Rattle.kn_code.specs.declared.program.Instr.TheVariants as instrs
 use Rattle.kn_model.specs.Nodes.{Halted}
 use Rattle.kn_model.specs.Nets.{Network}
-use Rattle.kn_model.specs.Conditions.{Inputs}
+use Rattle.kn_cond.specs.declared.standing.Standing.TheVariants.{Inputs}
 use Rattle.kn_model.specs.Reports.{Report, StateLine, Sds, Gives}
 use Rattle.kn_worked.specs.Networks.{one_node}
 

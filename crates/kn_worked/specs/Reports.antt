@@ -4,7 +4,8 @@ use Rattle.kn_code.specs.declared.program.Instr.TheVariants as instrs
 use Rattle.kn_model.specs.Terms.{Valuation}
 use Rattle.kn_model.specs.Nodes.{Running, Failed, Assert}
 use Rattle.kn_model.specs.Nets.{Network}
-use Rattle.kn_model.specs.Conditions.{Standing, Inputs, Open}
+use Rattle.kn_cond.specs.declared.standing.Standing.{Standing}
+use Rattle.kn_cond.specs.declared.standing.Standing.TheVariants.{Inputs, Open}
 use Rattle.kn_model.specs.Reports.{Report, StateLine, FailureLine, Reach, At, Undecided, Nowhere, Sds, Cob, Gives, IsReached, IsSharp}
 use Rattle.kn_worked.specs.Networks.{program, net_of, plain, link, early, i, o}
 use Rattle.kn_worked.specs.OneTick.{first_of, halves}

@@ -5,7 +5,7 @@ use Rattle.std.specs.List.{AllByRecursion}
 use Rattle.std.proofs.lemmas.List.{append-nil, length-append, length-map, take_all}
 use Rattle.std.proofs.lemmas.Option.{slice_get-get_or}
 use Rattle.kn_model.specs.Terms.{Term, terms}
-use Rattle.kn_model.specs.Histories.{Event}
+use Rattle.kn_packet.specs.declared.packet.Event.{Event}
 use Rattle.kn_model.specs.Nodes.{State}
 use Rattle.kn_model.specs.Nets.{Network, opening_node, no_plan}
 use Rattle.kn_model.specs.Due.{due}

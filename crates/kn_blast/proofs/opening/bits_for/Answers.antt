@@ -1,7 +1,7 @@
 -- One more input.
 use Rattle.std.proofs.Common.{sym, subst, arith, [], ◌∷◌}
-use Rattle.kn_built.specs.Built.{Extends}
-use Rattle.kn_built.proofs.BuiltLaws.{extends-twice}
+use Rattle.kn_aig.specs.Circuits.{Extends}
+use Rattle.kn_aig.proofs.Values.{extends_twice}
 use Rattle.kn_aig.specs.Circuits.{inputs_of}
 use Rattle.kn_aig.specs.declared.gates.AigNode.TheVariants as nodes
 use Rattle.kn_blast.specs.Inputs.{HasOnlyInputs}
@@ -20,5 +20,5 @@ loop-bit-preserved c =
     record {
       only = more.0;
       inputs = omega (arith, more.1, c.loop-bit.invariant.inputs);
-      grows = extends-twice _ _ _ c.loop-bit.invariant.grows (nodes.Input (inputs_of c.loop-bit.aig) ∷ [], c.in_ok-_edge.ensures.nodes);
+      grows = extends_twice _ _ _ c.loop-bit.invariant.grows (nodes.Input (inputs_of c.loop-bit.aig) ∷ [], c.in_ok-_edge.ensures.nodes);
     }

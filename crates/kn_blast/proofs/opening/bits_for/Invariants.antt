@@ -1,6 +1,6 @@
 -- The inputs so far.
 use Rattle.std.proofs.Common.{◌≡◌, ◌+◌}
-use Rattle.kn_built.specs.Built.{Extends}
+use Rattle.kn_aig.specs.Circuits.{Extends}
 use Rattle.kn_aig.specs.Circuits.{inputs_of}
 use Rattle.kn_blast.specs.Inputs.{HasOnlyInputs}
 use Rattle.kn_blast.proofs.opening.bits_for.Given as goal

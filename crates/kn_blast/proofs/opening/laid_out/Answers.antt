@@ -2,7 +2,7 @@
 use Rattle.std.proofs.Common.{◌≡◌, ◌∙◌, ◌+◌, ◌<◌, ◌++◌, ◌∷◌, [], Some, List, ap, sym, length, drop, arith}
 use Rattle.std.specs.Prelude.{slice_get}
 use Rattle.std.proofs.lemmas.Option.{slice_get_within}
-use Rattle.kn_built.proofs.BuiltLaws.{extends-same, extends-twice}
+use Rattle.kn_aig.proofs.Values.{extends_same, extends_twice}
 use Rattle.kn_aig.specs.Circuits.{inputs_of}
 use Rattle.kn_term.specs.Terms.{Given}
 use Rattle.kn_blast.specs.Inputs.{bits_of, laid_out}
@@ -18,7 +18,7 @@ loop-node-init c =
       out = ap (λ (es : List InputBits). es ++ laid_out (inputs_of c.args.aig.now) c.args.widths.now) c.new-entries.ensures.items ∙ ap (λ k. laid_out k c.args.widths.now) none;
       count = ap bits_of c.new-entries.ensures.items ∙ sym none;
       place = omega arith;
-      grows = extends-same c.args.aig.now;
+      grows = extends_same c.args.aig.now;
     }
 
 pub bits_for-requires-clause-width : goal.bits_for-requires-clause-width
@@ -52,7 +52,7 @@ loop-node-preserved c =
       out = ap (λ k. new ++ laid_out k (drop (place + 1) a)) count ∙ more;
       count = next_count old new e (inputs_of c.loop-node.aig) (inputs_of c.bits_for.new.aig) g.word pushed (ap (λ (f : InputBits). f.width) c.in_ok-entry.ensures.entry) c.loop-node.invariant.count count;
       place = omega (arith, within);
-      grows = extends-twice _ _ _ c.loop-node.invariant.grows c.in_ok-entry.ensures.grows;
+      grows = extends_twice _ _ _ c.loop-node.invariant.grows c.in_ok-entry.ensures.grows;
     }
 
 pub returns-clause-entries : goal.returns-clause-entries

@@ -1,6 +1,6 @@
 -- What is laid out, and what is left.
 use Rattle.std.proofs.Common.{◌≡◌, ◌≤◌, ◌-◌, ◌++◌, length, drop}
-use Rattle.kn_built.specs.Built.{Extends}
+use Rattle.kn_aig.specs.Circuits.{Extends}
 use Rattle.kn_aig.specs.Circuits.{inputs_of}
 use Rattle.kn_blast.specs.Inputs.{bits_of, HasOnlyInputs, laid_out}
 use Rattle.kn_blast.proofs.opening.laid_out.Given as goal

@@ -1,7 +1,7 @@
 -- What the line closes.
 use Rattle.std.proofs.Common.{rules, arith, ap, map, ◌≡◌, ◌+◌, ◌++◌, ◌∷◌, [], List, length, ◌∙◌}
 use Rattle.std.proofs.lemmas.List.{length-map}
-use Rattle.kn_unsat.proofs.Hints.{if_ok}
+use Rattle.std.proofs.lemmas.Result.{IfOk-weaker}
 use Rattle.kn_cnf.specs.Formulas.{items_of}
 use Rattle.kn_sat.specs.declared.trail.Assigned.{Assigned}
 use Rattle.kn_sat.specs.Trails.{undecided, reasons_of}
@@ -14,5 +14,5 @@ returns-clause-closed c = λ n stands conflict.
     c.in_ok-line.ensures ∙ ap (λ (es : List Assigned). record { clause = undecided es; hints = reasons_of es ++ c.args.conflict ∷ [] }) c.entries.ensures in
     let sum : c.in-Some.number ≡ length c.args.clauses.now + length c.args.lines.now.items = search rules in
     let number : c.in-Some.number ≡ length (map items_of c.args.clauses.now) + length c.args.lines.now.items = omega (arith, sum, length-map c.args.clauses.now items_of) in
-    if_ok c.flip.result _ _ (λ o m. close n (map items_of c.args.clauses.now) c.args.lines.now.items c.push.new.self.items c.in_ok-line.line c.args.trail.now.entries c.flip.new.trail.entries c.args.conflict c.in-Some.number
+    IfOk-weaker c.flip.result _ _ (λ o m. close n (map items_of c.args.clauses.now) c.args.lines.now.items c.push.new.self.items c.in_ok-line.line c.args.trail.now.entries c.flip.new.trail.entries c.args.conflict c.in-Some.number
     stands conflict line c.in_ok-push.ensures.items number o m) c.flip.ensures.flipped

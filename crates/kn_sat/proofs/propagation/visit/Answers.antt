@@ -4,7 +4,7 @@ use Rattle.kn_cnf.specs.declared.clauses.Lit.{Lit}
 use Rattle.kn_cnf.specs.Formulas.{items_of}
 use Rattle.kn_cnf.specs.Units.{IsUnit}
 use Rattle.kn_sat.specs.Trails.{latest}
-use Rattle.kn_sat.specs.Standings.{Means}
+use Rattle.kn_cnf.specs.States.{IsState}
 use Rattle.kn_sat.proofs.Clauses.{clause_at, literal_below, visited_still}
 use Rattle.kn_sat.proofs.Counts.{grown_same, grown_unit}
 use Rattle.kn_sat.proofs.propagation.visit.Goals as goal
@@ -30,9 +30,9 @@ returns-in_default c =
     let cs = map items_of c.args.clauses.now in
     let v = c.index-clauses-number.result in
     let at = clause_at c.args.clauses.now c.args.number v c.requires.number c.index-clauses-number.is in
-    let stood = subst (λ (d : List Lit). Means (latest (c.args.trail.now).entries) d c.standing_of-standing.result) c.deref.ensures.value c.standing_of-standing.ensures in
+    let stood = subst (λ (d : List Lit). IsState (latest (c.args.trail.now).entries) d c.state_of-state.result) c.deref.ensures.value c.state_of-state.ensures in
     record {
       vars = refl;
       grown = grown_same cs (c.args.trail.now).vars (c.args.trail.now).entries;
-      visited = visited_still cs c.args.number (c.args.trail.now).entries v.items c.standing_of-standing.result at stood c.in_default.not-Unit;
+      visited = visited_still cs c.args.number (c.args.trail.now).entries v.items c.state_of-state.result at stood c.in_default.not-Unit;
     }

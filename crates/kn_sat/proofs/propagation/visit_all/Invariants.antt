@@ -4,7 +4,7 @@ use Rattle.std.specs.Prelude.{Some, slice_get}
 use Rattle.kn_cnf.specs.declared.clauses.Lit.{Lit}
 use Rattle.kn_cnf.specs.Formulas.{items_of}
 use Rattle.kn_sat.specs.Trails.{latest, IsGrown}
-use Rattle.kn_sat.specs.Standings.{IsCalm}
+use Rattle.kn_cnf.specs.States.{IsCalm}
 use Rattle.kn_sat.proofs.propagation.visit_all.Given as goal
 
 abbrev pub invariant-loop-number : goal.invariant-loop-number

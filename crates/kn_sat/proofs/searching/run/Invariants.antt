@@ -2,7 +2,7 @@
 use Rattle.std.proofs.Common.{◌≡◌, ◌+◌, ◌-◌, ◌*◌, ◌<◌, ◌≤◌, map}
 use Rattle.kn_cnf.specs.Formulas.{items_of}
 use Rattle.kn_sat.specs.Trails.{latest, count_open}
-use Rattle.kn_sat.specs.Standings.{AreAssigned, Stands}
+use Rattle.kn_sat.specs.Propagating.{AreAssigned, Stands}
 use Rattle.kn_sat.specs.Order.{spelled}
 use Rattle.kn_sat.proofs.searching.run.Given as goal
 

@@ -2,8 +2,8 @@
 use Rattle.std.proofs.Common.{◌≡◌, List, [], take, drop, sym, subst}
 use Rattle.std.proofs.lemmas.List.{drop_all}
 use Rattle.kn_cnf.specs.Formulas.{Step}
-use Rattle.kn_unsat.specs.Good.{AreGood, before}
-use Rattle.kn_unsat.proofs.Sound.{never_met}
+use Rattle.kn_cnf.specs.Good.{AreGood, before}
+use Rattle.kn_cnf.proofs.Sound.{never_met}
 use Rattle.kn_unsat.proofs.checking.check.Goals as goal
 
 pub returns-clause-never : goal.returns-clause-never

@@ -1,6 +1,6 @@
 -- What is left to check, behind the lines so far.
 use Rattle.std.proofs.Common.{drop, take}
-use Rattle.kn_unsat.specs.Good.{AreGood, before}
+use Rattle.kn_cnf.specs.Good.{AreGood, before}
 use Rattle.kn_unsat.proofs.Hints.{Both}
 use Rattle.kn_unsat.proofs.checking.check.Given as goal
 

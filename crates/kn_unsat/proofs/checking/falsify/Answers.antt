@@ -5,9 +5,10 @@ use Rattle.std.specs.HashMap.{get}
 use Rattle.std.proofs.lemmas.List.{take_more}
 use Rattle.kn_cnf.specs.declared.clauses.Lit.{Lit}
 use Rattle.kn_cnf.specs.Units.{negated}
-use Rattle.kn_unsat.specs.Standings.{Assigns}
-use Rattle.kn_unsat.specs.Good.{falsified, HasBoth}
-use Rattle.kn_unsat.proofs.Falsified.{both_here, none_here, both_whole, valued_more, falsified_more, not_not}
+use Rattle.kn_unsat.specs.Assigned.{Assigns}
+use Rattle.kn_cnf.specs.Good.{falsified, HasBoth}
+use Rattle.kn_unsat.proofs.Falsified.{both_here, none_here, both_whole, valued_more, falsified_more}
+use Rattle.kn_cnf.proofs.Literals.{not_not}
 use Rattle.kn_unsat.proofs.checking.falsify.Goals as goal
 
 pub returns-then-is_true : goal.returns-then-is_true

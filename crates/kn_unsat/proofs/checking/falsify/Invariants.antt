@@ -1,7 +1,7 @@
 -- The literals assigned false so far.
 use Rattle.std.proofs.Common.{take, []}
-use Rattle.kn_unsat.specs.Standings.{Assigns}
-use Rattle.kn_unsat.specs.Good.{HasBoth, falsified}
+use Rattle.kn_unsat.specs.Assigned.{Assigns}
+use Rattle.kn_cnf.specs.Good.{HasBoth, falsified}
 use Rattle.kn_unsat.proofs.checking.falsify.Given as goal
 
 abbrev pub invariant-loop-l : goal.invariant-loop-l

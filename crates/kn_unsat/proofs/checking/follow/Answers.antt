@@ -2,7 +2,7 @@
 use Rattle.std.proofs.Common.{◌∷◌, not, refl}
 use Rattle.std.specs.Prelude.{nat_eq}
 use Rattle.std.specs.HashMap.{get}
-use Rattle.kn_unsat.specs.Good.{before}
+use Rattle.kn_cnf.specs.Good.{before}
 use Rattle.kn_unsat.proofs.Falsified.{valued_more}
 use Rattle.kn_unsat.proofs.Hints.{follow_none, follow_other, follow_false, follow_unit}
 use Rattle.kn_unsat.proofs.checking.follow.Goals as goal

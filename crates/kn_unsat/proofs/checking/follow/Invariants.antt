@@ -1,8 +1,8 @@
 -- What is left to refute, under what is assigned so far.
 use Rattle.std.proofs.Common.{List, drop}
 use Rattle.kn_cnf.specs.declared.clauses.Lit.{Lit}
-use Rattle.kn_unsat.specs.Standings.{Assigns}
-use Rattle.kn_unsat.specs.Good.{Refutes, before}
+use Rattle.kn_unsat.specs.Assigned.{Assigns}
+use Rattle.kn_cnf.specs.Good.{Refutes, before}
 use Rattle.kn_unsat.proofs.checking.follow.Given as goal
 
 abbrev pub invariant-loop-place : goal.invariant-loop-place

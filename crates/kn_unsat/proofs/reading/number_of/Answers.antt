@@ -1,26 +1,31 @@
--- The number of one digit more.
-use Rattle.std.proofs.Common.{◌≡◌, ◌∙◌, ℕ, take, ap, arith}
-use Rattle.std.specs.Prelude.{Some}
-use Rattle.std.specs.Str.Parse.{digits_value}
-use Rattle.std.proofs.lemmas.List.{take_all}
-use Rattle.kn_unsat.proofs.Spelled.{value_more, value_below, digit_here, decimal_value}
+-- Digits are text, and are read as their number.
+use Rattle.std.proofs.Common.{◌≡◌, ◌≤◌, ◌^◌, ℕ, List, refl, sym, subst, ◌∙◌, arith}
+use Rattle.std.specs.Prelude.{Ok, Err, Some, Result}
+use Rattle.std.specs.Fmt.{decimal}
+use Rattle.std.specs.Str.{IsUtf8}
+use Rattle.std.specs.Str.Parse.{ParsesUnsigned}
+use Rattle.std.proofs.lemmas.Fmt.{IsAscii-decimal_wide, parse-decimal_wide}
+use Rattle.std.proofs.lemmas.Str.{IsUtf8-from_ascii}
+use Rattle.std.specs.declared.num.ParseIntError.{ParseIntError}
 use Rattle.kn_unsat.proofs.reading.number_of.Goals as goal
 
+is_text : (n : ℕ) (ds : List ℕ) → n ≤ 2 ^ 64 → ds ≡ decimal n → IsUtf8 ds
+is_text n ds h is = subst IsUtf8 (sym is) (IsUtf8-from_ascii (decimal n) (IsAscii-decimal_wide n (omega (arith, h))))
+
+is_read : {E : Type 0} (n : ℕ) (ds text : List ℕ) (r : Result ℕ E) → n ≤ 2 ^ 64 → text ≡ ds → ds ≡ decimal n → ParsesUnsigned 128 10 text r → r ≡ Ok n
+is_read n ds text r h same is parses = parse-decimal_wide 128 n text r (omega (arith, h)) (omega (arith, h)) (same ∙ is) parses
+
+is_number : {E : Type 0} (n number : ℕ) (r : Result ℕ E) → r ≡ Ok number → r ≡ Ok n → Some number ≡ Some n
+is_number n number r a b = let same : Ok number ≡ Ok n = sym a ∙ b in cc
+
+no_error : {E P : Type 0} (n : ℕ) (e : E) (r : Result ℕ E) → r ≡ Err e → r ≡ Ok n → P
+no_error n e r a b = let wrong : Err e ≡ Ok n = sym a ∙ b in absurd cc
+
 pub returns-in_default : goal.returns-in_default
-returns-in_default c = λ n h is.
-    let r = digit_here c.args.digits.now c.loop-byte.byte-index n h is c.loop-byte-test.true in
-    absurd (c.in_default.ensures r.0 r.1)
+returns-in_default c = λ n h is. absurd (c.in_default.ensures.cases.0 (is_text n c.args.digits.now h is))
 
-pub returns-then-number : goal.returns-then-number
-returns-then-number c = λ n h is. absurd (omega (arith, c.if-number.true, c.loop-byte.invariant.spelled n h is, value_below c.args.digits.now c.loop-byte.byte-index n h is))
+pub returns-in-Ok-from_str_radix : goal.returns-in-Ok-from_str_radix
+returns-in-Ok-from_str_radix c = λ n h is. is_number {E = ParseIntError} n c.in-Ok-from_str_radix.number (Ok c.in-Ok-from_str_radix.number) refl (is_read n c.args.digits.now c.in-Ok.text.now (Ok c.in-Ok-from_str_radix.number) h c.in-Ok.ensures.cases.0 is c.in-Ok-from_str_radix.ensures.value)
 
-pub loop-byte-preserved : goal.loop-byte-preserved
-loop-byte-preserved c = record {
-  small = omega (arith, c.if-number.false, c.in-Some.ensures);
-  spelled = λ n h is. value_more c.args.digits.now c.loop-byte.byte-index c.in-Some.digit c.loop-byte.number c.loop-byte-test.true c.in-Some.ensures.0 c.in-Some.ensures.1 (c.loop-byte.invariant.spelled n h is);
-}
-
-pub returns : goal.returns
-returns c = λ n h is.
-    let whole : take c.loop-byte.byte-index c.args.digits.now ≡ c.args.digits.now = take_all c.loop-byte.byte-index c.args.digits.now c.loop-byte-test.false in
-    ap (λ (m : ℕ). Some m) (c.loop-byte.invariant.spelled n h is ∙ ap (digits_value 10) whole ∙ ap (digits_value 10) is ∙ decimal_value n h)
+pub returns-in-Err : goal.returns-in-Err
+returns-in-Err c = λ n h is. no_error {E = ParseIntError} n c.in-Err.field-0 (Err c.in-Err.field-0) refl (is_read n c.args.digits.now c.in-Ok.text.now (Err c.in-Err.field-0) h c.in-Ok.ensures.cases.0 is c.in-Err.ensures.value)

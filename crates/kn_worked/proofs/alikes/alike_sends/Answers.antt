@@ -2,7 +2,7 @@ use Rattle.std.proofs.Common.{◌≡◌, true, false, [], ◌∷◌, ap, refl, a
 use Rattle.std.specs.Prelude.{Contains}
 use Rattle.kn_word.specs.Words.{one_if}
 use Rattle.kn_model.specs.Conditions.{Read}
-use Rattle.kn_model.specs.Alikes.{Key}
+use Rattle.kn_model.specs.Packets.{Key}
 use Rattle.kn_worked.proofs.OneHalf.{the_only}
 use Rattle.kn_worked.proofs.alikes.alike_sends.Goals as goal
 
