@@ -1,10 +1,9 @@
--- Worked edges of the rules: the last instruction and the last input, what a failure choice changes, the order of events and of what is got, and which states are alike.
-use Rattle.std.specs.List.{AllByRecursion}
+-- Worked edges of the rules: the last instruction and the last input, what a failure choice changes, and the order of events and of what is got.
 use Rattle.std.specs.Prelude.{flat_map, ◌≡◌, ℕ, true, List, [], ◌∷◌, take, drop, map, Bool, false, replicate, Option, Some, None}
 use Rattle.std.specs.declared.cmp.Ordering.{Ordering}
 use Rattle.std.specs.declared.cmp.Ordering.TheVariants.{Less}
 use Rattle.kn_code.specs.declared.program.Instr.TheVariants as instrs
-use Rattle.kn_model.specs.Terms.{Term, Word, Input, Choice, Given, Valuation, terms}
+use Rattle.kn_model.specs.Terms.{Term, Word, Input, Given, Valuation, terms}
 use Rattle.kn_model.specs.Histories.{History, Done, AndRan, AndGot, history_cmp}
 use Rattle.kn_packet.specs.declared.packet.Event.{Event}
 use Rattle.kn_packet.specs.declared.packet.Event.TheVariants.{Boot, Reboot, Packet as Mail, Timer}
@@ -19,7 +18,7 @@ use Rattle.kn_model.specs.Scenarios.{copies, finish, opening, Scenario, name_of,
 use Rattle.kn_model.specs.Conditions.{holds}
 use Rattle.kn_worked.specs.OneTick.{halves, half, forcing, first_of}
 use Rattle.kn_model.specs.Replays.{record_of}
-use Rattle.kn_model.specs.Alikes.{IsStateOf, Alike, MetAt}
+use Rattle.kn_model.specs.Alikes.{IsStateOf, MetAt}
 use Rattle.kn_model.specs.Concrete.{concrete, events}
 use Rattle.kn_worked.specs.Networks.{Name, last, names, outcomes, owns, net_of, limited, one_node, program, plain, link, ping, ifsend, idle, five, lossy, rebooting, is, is_not, bit, o, i}
 use Rattle.kn_worked.specs.Parts.{one, ran_at, covered, replays, all_nodes}
@@ -257,56 +256,6 @@ rising = Done ∷ booted Done ∷ booted (AndRan (Timer 0) [] Done) ∷ booted (
 
 abbrev pub HistoriesRise : Type 0
 HistoriesRise = compared rising ≡ replicate 18 Less
-
--- a state whose queue has one packet
-abbrev pub base : State Term
-base = record (state_of terms 0 0 []) { queue = packet 0 1 2 (Word 5 ∷ []) ∷ [] }
-
--- terms that are built otherwise and have equal words, and a condition that says the same with more literals
-abbrev pub built_otherwise : State Term
-built_otherwise = record base { registers = Choice (Word 1) (Input 0 0 1) (Word 5) ∷ replicate 15 (Word 0); own = is (Word 1) ∷ is (Input 0 0 1) ∷ is (Word 2) ∷ [] }
-
-abbrev pub built_short : State Term
-built_short = record base { registers = Input 0 0 1 ∷ replicate 15 (Word 0); own = is (Input 0 0 1) ∷ [] }
-
-abbrev pub AlikeOtherwise : Type 0
-AlikeOtherwise = Alike built_otherwise built_short
-
--- an input that makes no difference is read all the same
-abbrev pub reading : State Term
-reading = record base { registers = Choice (Word 1) (Word 0) (Input 0 0 1) ∷ replicate 15 (Word 0) }
-
-abbrev pub AlikeReadingLess : Type 0
-AlikeReadingLess = Alike base reading
-
-abbrev pub ReadsMore : Type 0
-ReadsMore = Alike reading base → ⊥
-
--- nor does it help that another word reads it
-abbrev pub reading_apart : State Term
-reading_apart = record base { registers = Choice (Word 1) (Word 0) (Input 0 0 1) ∷ Input 0 0 1 ∷ replicate 14 (Word 0) }
-
-abbrev pub reading_once : State Term
-reading_once = record base { registers = Word 0 ∷ Input 0 0 1 ∷ replicate 14 (Word 0) }
-
-abbrev pub WordByWord : Type 0
-WordByWord = Alike reading_apart reading_once → ⊥
-
--- a state is not alike to the one with a packet in its queue
-abbrev pub IsOther : State Term → Type 0
-IsOther s = Alike s base → ⊥
-
--- one part differs in each: trace, outcome, timers, counts, flags
-abbrev pub OtherCounts : Type 0
-OtherCounts = AllByRecursion IsOther (record base { trace = bit o } ∷ record base { outcome = Halted } ∷ record base { timers = Some 3 ∷ replicate 7 None }
-    ∷ record base { inputs = 1 } ∷ record base { sent = 1 } ∷ record base { losses = 1 } ∷ record base { duplications = 1 } ∷ record base { booted = true } ∷ record base { reboots = 1 ∷ [] } ∷ [])
-
--- the key of a packet by arrival, sender, number and copy; the words of registers, memory and payload; what the condition says
-abbrev pub OtherValues : Type 0
-OtherValues = AllByRecursion IsOther (record base { queue = packet 0 1 3 (Word 5 ∷ []) ∷ [] } ∷ record base { queue = record (packet 0 1 2 (Word 5 ∷ [])) { from = 2 } ∷ [] }
-    ∷ record base { queue = packet 1 1 2 (Word 5 ∷ []) ∷ [] } ∷ record base { queue = record (packet 0 1 2 (Word 5 ∷ [])) { copy = 1 } ∷ [] }
-    ∷ record base { registers = Word 1 ∷ replicate 15 (Word 0) } ∷ record base { memory = Word 1 ∷ replicate 63 (Word 0) }
-    ∷ record base { queue = packet 0 1 2 (Word 6 ∷ []) ∷ [] } ∷ record base { own = is (Word 0) ∷ [] } ∷ [])
 
 -- no scenario is met at a node that the net does not have
 abbrev pub NoSuchNode : Type 0

@@ -6,6 +6,7 @@ pub mod Chain
 pub mod OneTick
 pub mod Packets
 pub mod Edges
+pub mod Alikes
 pub mod Limits
 pub mod Cores
 pub mod Reports

@@ -1,6 +1,6 @@
 //! Worked edges of the rules, each by computation.
 
-ghost use Rattle.kn_worked.specs.Edges.{TwoLosses, TwoStamps, SendBothReplays, RebootsTwice, OtherReplays, FinishedFromSecond, WaitingStates, NothingAfter, RebootsFirstHistories, RebootsFirstInputs, IndexedOutcomes, LastIndex, IndexOut, IndexedCovered, NowhereNames, NowhereHolds, NowhereRuns, AlikeOtherwise, AlikeReadingLess, ReadsMore, OtherCounts, OtherValues, NoSuchNode, BarelyNames, BarelyOutcomes, BcastLastThree, BcastNoLink, BcastTwoFit, BootDue, CopyLost, CountsLeft, DoubledCounts, DoubledNames, EndedDue, FuelAtAssert, FuelAtBranch, FuelPastBranch, HaltedEvents, HaltedHistories, HaltedQueues, HistoriesRise, LastChoice, LateDue, MailDue, NoChoice, NoLateBoot, NoReboot, RebootDue, RebootsBusy, RelayedCovered, RelayedHistories, RelayedNames, RelayedOwn, RelayedRecords, RelayedReplays, TimerDue, WordByWord};
+ghost use Rattle.kn_worked.specs.Edges.{TwoLosses, TwoStamps, SendBothReplays, RebootsTwice, OtherReplays, FinishedFromSecond, WaitingStates, NothingAfter, RebootsFirstHistories, RebootsFirstInputs, IndexedOutcomes, LastIndex, IndexOut, IndexedCovered, NowhereNames, NowhereHolds, NowhereRuns, NoSuchNode, BarelyNames, BarelyOutcomes, BcastLastThree, BcastNoLink, BcastTwoFit, BootDue, CopyLost, CountsLeft, DoubledCounts, DoubledNames, EndedDue, FuelAtAssert, FuelAtBranch, FuelPastBranch, HaltedEvents, HaltedHistories, HaltedQueues, HistoriesRise, LastChoice, LateDue, MailDue, NoChoice, NoLateBoot, NoReboot, RebootDue, RebootsBusy, RelayedCovered, RelayedHistories, RelayedNames, RelayedOwn, RelayedRecords, RelayedReplays, TimerDue};
 
 /// An assertion as the last instruction that the fuel allows: the side that fails by it fails so, and the other one by fuel.
 pub fn fuel_at_assert()
@@ -85,20 +85,6 @@ pub fn relays()
 /// Histories in their order.
 pub fn histories_rise()
     ensures { HistoriesRise }
-{}
-
-/// Terms that are built otherwise are alike where they have equal words and read no input more.
-pub fn alike_otherwise()
-    ensures words { AlikeOtherwise }
-    ensures reads_less { AlikeReadingLess }
-    ensures reads_more { ReadsMore }
-    ensures word_by_word { WordByWord }
-{}
-
-/// States of which one part differs are not alike.
-pub fn not_alike()
-    ensures counts { OtherCounts }
-    ensures values { OtherValues }
 {}
 
 /// No scenario is met at a node that the net does not have.

@@ -1,6 +1,7 @@
 //! Worked examples of a network's exploration: what the definitions give on small networks, by computation. No program calls this crate.
 #![tactic(auto)]
 
+mod alikes;
 mod chain;
 mod cores;
 mod edges;

@@ -1,8 +1,8 @@
 -- The failure lines of kept scenarios are given.
-use Rattle.std.proofs.Common.{◌≡◌, inl, inr, ℕ, zero, suc, ◌+◌, ◌<◌, ◌≤◌, Bool, true, false, cond, List, [], ◌∷◌, ◌++◌, length, map, take, drop, Some, refl, sym, ap, subst, ◌∙◌, arith, append_assoc}
+use Rattle.std.proofs.Common.{◌≡◌, inl, inr, ℕ, zero, suc, ◌+◌, ◌<◌, ◌≤◌, Bool, true, false, cond, List, [], ◌∷◌, ◌++◌, length, map, Some, refl, sym, ap, subst, ◌∙◌, arith, append_assoc}
 use Rattle.std.specs.Prelude.{Contains, slice_get, flat_map, ◌&&◌}
 use Rattle.std.specs.List.{AllByRecursion}
-use Rattle.std.proofs.lemmas.List.{length-append, length-map, map-append, take_at, drop_at}
+use Rattle.std.proofs.lemmas.List.{length-append, map-append}
 use Rattle.std.proofs.lemmas.List.Concat.{flat_map-cons, flat_map-append}
 use Rattle.std.proofs.lemmas.List.Elements.{Contains-append_left, Contains-append_right, Contains-append_cases}
 use Rattle.std.specs.declared.cmp.Ordering.{Ordering}
@@ -13,7 +13,7 @@ use Rattle.kn_model.specs.Terms.{Term, Valuation}
 use Rattle.kn_model.specs.Nodes.{State, Node, Outcome, Running, Halted, Failed}
 use Rattle.kn_model.specs.Nets.{Network}
 use Rattle.kn_model.specs.Scenarios.{Scenario, name_of}
-use Rattle.kn_model.specs.Conditions.{Condition, Query, that, that_with, holds, literal_holds, IsLeast, IsImpossible, AreDistinct, StandsFor}
+use Rattle.kn_model.specs.Conditions.{Condition, that, holds, literal_holds, AreDistinct, StandsFor}
 use Rattle.kn_cond.specs.declared.standing.Standing.TheVariants.{Inputs}
 use Rattle.kn_model.specs.Concrete.{node_under, scenario_under}
 use Rattle.kn_model.specs.Deciding.{IsPlain, clashes, forced, joined}
@@ -26,7 +26,7 @@ use Rattle.std.specs.Cmp.Lexicographic.{slice_cmp}
 use Rattle.kn_built.specs.Picks.{picks}
 use Rattle.netsym.specs.Listing.{dstates_from, line_of, numbers, reach_of, failure_of, failures_in, failures_from}
 use Rattle.netsym.proofs.Numbered.{some_one, none_some, get_behind, get_map, map_get, get_less, get_some, contained_at, all_at, all_mapped, first_of, numbers_at, singles_at, one_of, all_contained, AreLong, at_numbers, at_singles, only, contains_at}
-use Rattle.netsym.proofs.Given.{IsListing, lists, state, Kept, kept_at, kept_of, is_member, pick_is, is_pick, named_is, all_names, rows_run, long_lists, names_kept, shows_kept, Found, found, line_is, same_place, same_node, node_found, node_in, line_at, N, r}
+use Rattle.netsym.proofs.Given.{IsListing, lists, state, Kept, kept_at, kept_of, is_member, pick_is, is_pick, named_is, all_names, rows_run, long_lists, names_kept, shows_kept, Found, found, line_is, same_place, node_found, line_at, N, r}
 
 -- ---- conditions that are joined
 
@@ -133,7 +133,7 @@ module _ (net : Network) (ms : List (Scenario Term)) (h : IsListing net ms) wher
         let same = same_place net ms h i i f g refl in
         let one : k.scenario ≡ f.kept.scenario = some_one k.scenario f.kept.scenario (sym k.member ∙ ap (slice_get ms) (sym same.0) ∙ f.kept.member) in
         let whole : pick_condition m.scenario.nodes ≡ joined all =
-            ap (λ (s : Scenario Term). pick_condition s.nodes) scenario ∙ ap (λ (s : Scenario Term). pick_condition s.nodes) one ∙ pick_is_joined f.kept.scenario.nodes ∙ ap joined split in
+        ap (λ (s : Scenario Term). pick_condition s.nodes) scenario ∙ ap (λ (s : Scenario Term). pick_condition s.nodes) one ∙ pick_is_joined f.kept.scenario.nodes ∙ ap joined split in
         (sym same.0, ap (holds a) (sym whole) ∙ m.meets)
 
     reached : clashes (joined all) ≡ false → IsReached net R i f.d (numbers M first) (forced (joined all))

@@ -1,7 +1,7 @@
 use Rattle.std.proofs.Common.{◌≡◌, [], ap, arith}
 use Rattle.kn_word.specs.Words.{one_if}
 use Rattle.kn_model.specs.Packets.{Key}
-use Rattle.kn_worked.proofs.edges.not_alike.Goals as goal
+use Rattle.kn_worked.proofs.alikes.not_alike.Goals as goal
 
 pub returns-clause-values : goal.returns-clause-values
 returns-clause-values c = (
