@@ -9,7 +9,7 @@ use Rattle.kn_model.specs.Conditions.{Condition, Query, StandsFor, that, that_wi
 use Rattle.kn_cond.specs.declared.standing.Standing.{Standing}
 use Rattle.kn_cond.specs.declared.standing.Standing.TheVariants.{Inputs, Open}
 use Rattle.kn_model.specs.Concrete.{concrete}
-use Rattle.kn_model.specs.Picks.{picks}
+use Rattle.kn_built.specs.Picks.{picks}
 use Rattle.kn_term.specs.Valuations.{precedes}
 use Rattle.kn_model.specs.Cores.{HasImpossible}
 use Rattle.kn_model.specs.Reports.{Report, StateLine, FailureLine, Reach, At, Undecided, Nowhere, ends, IsLine, Names, all_picks, pick_name, NodeIn, AllOwnsOf, IsQuery, MeetsPick, HasNoPick, HasFarQuery, pick_condition, ReachIs, IsFailure, IsFailedState, Gives}

@@ -7,7 +7,7 @@ use Rattle.kn_model.specs.Conditions.{Condition, holds, literal_holds}
 use Rattle.kn_model.specs.Concrete.{concrete}
 use Rattle.kn_model.specs.Laws.{IsNet}
 use Rattle.kn_model.specs.Least.{IsBefore}
-use Rattle.kn_model.specs.Picks.{picks}
+use Rattle.kn_built.specs.Picks.{picks}
 use Rattle.kn_model.specs.Reports.{Report, ends, Names, MeetsPick, pick_condition}
 use Rattle.kn_worked.specs.Networks.{is, is_not, i, o}
 use Rattle.kn_worked.specs.Reports.{two_ways, two_told, only_input, chose, either_way, FirstPickReached, LaterPickNotGiven}
