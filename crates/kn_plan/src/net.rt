@@ -1,8 +1,9 @@
 //! Networks of nodes that run programs and are joined by links.
 
-ghost use Rattle.std.specs.Prelude.{◌≡◌, ◌↔◌, IfOk, IsTrue, slice_get, filter, nat_eq};
-ghost use Rattle.kn_plan.specs.Nets.{links_of};
-ghost use Rattle.kn_plan.specs.Valid.{IsNet};
+ghost use Rattle.std.specs.Prelude.{◌≡◌, ◌↔◌, ◌<◌, ◌≤◌, IfOk, IfSome, IsTrue, slice_get, filter, nat_eq};
+ghost use Rattle.kn_code.specs.Code.{Code};
+ghost use Rattle.kn_plan.specs.Nets.{Plan, links_of};
+ghost use Rattle.kn_plan.specs.Valid.{IsNet, IsLink};
 ghost use Rattle.kn_plan.specs.Equality.{plan_eq, network_eq};
 
 use kn_code::Program;
