@@ -111,7 +111,7 @@ fn finds_the_least_model(rt: HostRuntime) -> Result<(), Fail> {
     let forty = one_clause(alloc, 40, &[NOT_X])?;
     assert!(rt; is_model(&search_all(alloc, &forty, 1)?, &[false; 40]));
     let chain = of_pairs(alloc, 3, &CHAIN)?;
-    assert!(rt; is_model(&search_all(alloc, &chain, 1)?, &[true; 3]));
+    assert!(rt; is_model(&search_all(alloc, &chain, 8)?, &[true; 3]));
     Ok(())
 }
 
