@@ -123,10 +123,6 @@ clash_behind [] d e = e
 clash_behind (l ∷ c) d e =
     ap (λ (b : Bool). is_false l || (some_opposes l (c ++ d) || b)) (clash_behind c d e) ∙ (ap (λ (b : Bool). is_false l || b) (or_true (some_opposes l (c ++ d))) ∙ or_true (is_false l))
 
--- in which order conditions are joined makes no difference
-pub holds_swapped : (a : Valuation) (c d : Condition) → holds a (c ++ d) ≡ holds a (d ++ c)
-holds_swapped a c d = holds-append a c d ∙ (and_swap (holds a c) (holds a d) ∙ sym (holds-append a d c))
-
 -- own conditions, joined, hold exactly where each of them holds
 pub joined_holds : (a : Valuation) (ss : List (State Term)) → AllByRecursion (λ (s : State Term). holds a s.own ≡ true) ss → holds a (joined ss) ≡ true
 joined_holds a [] h = refl

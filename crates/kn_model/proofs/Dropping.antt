@@ -67,12 +67,6 @@ set_stands (y ∷ ys) (suc n) z inside e = go (clashes y.state.own) (none_clashe
     go true a h ih = absurd cc
     go false a h ih = ih h
 
--- A copy of a scenario that stands does so where the node's own condition after the path does not clash.
-pub copy_stands : (s : Scenario Term) (n : ℕ) (e : Event) (p : Path Term) → n < length s.nodes → stands s ≡ true → stands (copied terms s n e p) ≡ not (clashes p.state.own)
-copy_stands s n e p inside h =
-    let after = node_after terms e (node_at terms s n) p in
-    posted_none 0 (parcels terms (node_at terms s n) p) (set s.nodes n after) ∙ set_stands s.nodes n after inside h
-
 copy_out : (s : Scenario Term) (n : ℕ) (e : Event) (p : Path Term) → p.state.own ≡ (node_at terms s n).state.own ++ p.literals → IsOut s → IsOut (copied terms s n e p)
 copy_out s n e p own h =
     let y = node_at terms s n in
@@ -143,20 +137,3 @@ dropped_before {A} test go out (x ∷ xs) = filter_append test (go x) (flat_map 
     by_test : (b : Bool) → test x ≡ b → filter test (flat_map go xs) ≡ filter test (flat_map go (filter test xs)) → filter test (go x) ++ filter test (flat_map go xs) ≡ filter test (flat_map go (cond b (x ∷ filter test xs) (filter test xs)))
     by_test true e ih = ap (λ (ys : List A). filter test (go x) ++ ys) ih ∙ sym (filter_append test (go x) (flat_map go (filter test xs)))
     by_test false e ih = ap (λ (ys : List A). ys ++ filter test (flat_map go xs)) (none_passes test (go x) (out x e)) ∙ ih
-
--- The members that stand at the next tick come of those that stand at this one.
-pub next_standing : (net : Network) (t : ℕ) → IsNet net → filter stands (cob terms net (suc t)) ≡ filter stands (flat_map (finish terms net t) (filter stands (cob terms net t)))
-next_standing net t good = dropped_before stands (finish terms net t) (finish_out net t good) (cob terms net t)
-
--- one that does not stand has a node that no inputs meet
-pub out_is_impossible : (s : Scenario Term) → stands s ≡ false → HasImpossible s
-out_is_impossible s h = let found = find_node s.nodes h in record { node = found.0; there = found.1; impossible = clash_is_impossible found.0.state.own found.2 }
-  where
-    find_node : (ys : List (Node Term)) → none_clashes (map state_in ys) ≡ false → (y : Node Term) × Contains ys y × (clashes y.state.own ≡ true)
-    find_node [] e = absurd cc
-    find_node (y ∷ ys) e = go (clashes y.state.own) refl e (find_node ys)
-      where
-        go : (b : Bool) → clashes y.state.own ≡ b → (not b && none_clashes (map state_in ys)) ≡ false
-            → (none_clashes (map state_in ys) ≡ false → (z : Node Term) × Contains ys z × (clashes z.state.own ≡ true)) → (z : Node Term) × Contains (y ∷ ys) z × (clashes z.state.own ≡ true)
-        go true c d ih = (y, (0, omega arith, refl), c)
-        go false c d ih = let rest = ih d in let inside = rest.1.1 in (rest.0, (suc rest.1.0, omega (arith, inside), rest.1.2), rest.2)

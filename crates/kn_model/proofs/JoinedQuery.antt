@@ -43,9 +43,3 @@ joined_query c ds =
     ap (λ (rs : List Read). record asked { reads = widest rs }) (ap (λ (rs : List Read). reads_of c ++ rs) (alone_reads ds) ∙ sym (reads_append c (all_of ds)))
     ∙ ap (λ (m : Valuation → Bool). record { reads = widest (reads_of (c ++ all_of ds)); meets = m })
     (fun_ext (λ (a : Valuation). ap (λ (x : Bool). holds a c && x) (alone_hold a ds) ∙ sym (holds-append a c (all_of ds))))
-
-pub joined_least : (c : Condition) (ds : List Condition) → IsPlain (c ++ all_of ds) → clashes (c ++ all_of ds) ≡ false → IsLeast (that_with c (alone ds)) (forced (c ++ all_of ds))
-joined_least c ds p e = subst (λ (q : Query). IsLeast q (forced (c ++ all_of ds))) (sym (joined_query c ds)) (forced_is_least (c ++ all_of ds) p e)
-
-pub joined_impossible : (c : Condition) (ds : List Condition) → clashes (c ++ all_of ds) ≡ true → IsImpossible (that_with c (alone ds))
-joined_impossible c ds e = subst IsImpossible (sym (joined_query c ds)) (clash_is_impossible (c ++ all_of ds) e)

@@ -58,9 +58,6 @@ max_swap a b c = let x = below a b c in let y = below b a c in omega (arith, x, 
 under_same : (n k : ℕ) (s x : Read) → s.node ≡ x.node → s.index ≡ x.index → Under n k x.node x.index → Under n k s.node s.index
 under_same n k s x e i h = subst (λ (j : ℕ). Under n k s.node j) (sym i) (subst (λ (m : ℕ). Under n k m x.index) (sym e) h)
 
-under_other : (n k : ℕ) (s x : Read) → s.node ≡ x.node → s.index ≡ x.index → Under x.node x.index n k → Under s.node s.index n k
-under_other n k s x e i h = subst (λ (j : ℕ). Under s.node j n k) (sym i) (subst (λ (m : ℕ). Under m x.index n k) (sym e) h)
-
 -- two reads that both go in front
 pair : (r s : Read) (ys : List Read) → put_read r ys ≡ r ∷ ys → put_read s ys ≡ s ∷ ys → put_read r (s ∷ ys) ≡ put_read s (r ∷ ys)
 pair r s ys hr hs = go (read_cmp r s) (place r s)
@@ -159,12 +156,6 @@ one_and_others cs n h =
     ∙ (ap (λ (d : Condition). that (own ++ d)) (flat_map-append (λ (d : Condition). d) (take n cs) (drop (n + 1) cs))
     ∙ (query_swapped own (all_of (take n cs)) (all_of (drop (n + 1) cs)) ∙ ap that (sym (by_place cs n h))))
 
-pub one_and_others_least : (cs : List Condition) (n : ℕ) → n < length cs → IsPlain (all_of cs) → clashes (all_of cs) ≡ false → IsLeast (that_with (get_or cs n []) (alone (take n cs ++ drop (n + 1) cs))) (forced (all_of cs))
-one_and_others_least cs n h p e = subst (λ (q : Query). IsLeast q (forced (all_of cs))) (sym (one_and_others cs n h)) (forced_is_least (all_of cs) p e)
-
-pub one_and_others_impossible : (cs : List Condition) (n : ℕ) → n < length cs → clashes (all_of cs) ≡ true → IsImpossible (that_with (get_or cs n []) (alone (take n cs ++ drop (n + 1) cs)))
-one_and_others_impossible cs n h e = subst IsImpossible (sym (one_and_others cs n h)) (clash_is_impossible (all_of cs) e)
-
 -- the own conditions of states, joined, with one of them in front or in its place
 pub joined_append : (ss us : List (State Term)) → joined (ss ++ us) ≡ joined ss ++ joined us
 joined_append [] us = refl
@@ -177,6 +168,3 @@ joined_is_all_of (s ∷ ss) = ap (λ (c : Condition). s.own ++ c) (joined_is_all
 pub joined_query_moved : (s : State Term) (before after : List (State Term)) → that (s.own ++ joined (before ++ after)) ≡ that (joined (before ++ s ∷ after))
 joined_query_moved s before after =
     ap (λ (c : Condition). that (s.own ++ c)) (joined_append before after) ∙ (query_swapped s.own (joined before) (joined after) ∙ ap that (sym (joined_append before (s ∷ after))))
-
-pub joined_holds_moved : (a : Valuation) (s : State Term) (before after : List (State Term)) → holds a (s.own ++ joined (before ++ after)) ≡ holds a (joined (before ++ s ∷ after))
-joined_holds_moved a s before after = ap (λ (q : Query). q.meets a) (joined_query_moved s before after)

@@ -208,9 +208,6 @@ other_side true false = refl
 other_side false true = refl
 other_side false false = refl
 
-holds_negated : (a : Valuation) (l : Literal Term) → literal_holds a (negated l) ≡ not (literal_holds a l)
-holds_negated a l = other_side (not (nat_eq (ev a l.value) 0)) l.truth
-
 -- a way whose literals do not hold leads to none whose literals do
 module _ (a : Valuation) (here : Here Term) (good : IsHere here) where
   abbrev IsDead : Way Term → Type 0

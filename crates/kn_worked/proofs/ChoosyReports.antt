@@ -296,9 +296,6 @@ module _ (c : ℕ) where
     never : (a : Valuation) → holds a (is (Input 0 0 2) ∷ is (Word 0) ∷ []) ≡ false
     never a = and_false (literal_holds a (is (Input 0 0 2)))
 
-    name_listed : (k : ℕ) → k < 2 → (s : Scenario Term) → slice_index_or (map (pick_name told_all) (all_picks told_all)) k (name_of s) ≡ name_of s → Contains (map (pick_name told_all) (all_picks told_all)) (name_of s)
-    name_listed k h s e = (k, h, e)
-
     missing : (s : Scenario Term) → IsMember s → (Contains (map (pick_name told_all) (all_picks told_all)) (name_of s) → ⊥) → HasImpossible s
     missing s (Zeroth e) none = subst HasImpossible e (record { node = node 0; there = (0, omega arith, refl); impossible = never })
     missing s (First e) none = absurd (none (subst (λ (u : Scenario Term). Contains (map (pick_name told_all) (all_picks told_all)) (name_of u)) e (0, omega arith, refl)))

@@ -53,9 +53,6 @@ clashes-both own literals l =
     ∙ (clashes-last (own ++ literals) l
     ∙ ap (λ (b : Bool). clashes (own ++ literals) || (is_false l || b)) (opposed_by-append l own literals))
 
-pub stays_clashing : (own literals : Condition) (l : Literal Term) → clashes (own ++ literals) ≡ true → clashes (own ++ (literals ++ l ∷ [])) ≡ true
-stays_clashing own literals l h = clashes-both own literals l ∙ ap (λ (b : Bool). b || (is_false l || (opposed_by l own || opposed_by l literals))) h
-
 -- whether conditions in two parts still pass with a literal more
 pub still_passes : (own literals : Condition) (l : Literal Term) → not (clashes (own ++ literals)) ≡ true → not (clashes (own ++ (literals ++ l ∷ []))) ≡ not (is_false l || (opposed_by l own || opposed_by l literals))
 still_passes own literals l h = ap not (clashes-both own literals l ∙ ap (λ (b : Bool). b || (is_false l || (opposed_by l own || opposed_by l literals))) (not_true (clashes (own ++ literals)) h))

@@ -32,14 +32,6 @@ lives_at live [] n inside h = absurd (omega (arith, inside))
 lives_at live (y ∷ ys) zero inside h = both_left (live y.state.own) (all_live live ys) h
 lives_at live (y ∷ ys) (suc n) inside h = lives_at live ys n (omega (arith, inside)) (both_right (live y.state.own) (all_live live ys) h)
 
--- an event is due before the last tick alone
-pub due_early : (ticks t : ℕ) (s : State Term) (e : Event) → due ticks t s ≡ Some e → t < ticks
-due_early ticks t s e is = go (nat_lt t ticks) refl is
-  where
-    go : (b : Bool) → nat_lt t ticks ≡ b → cond (b && is_running s.outcome) (or_else (cond (boot_due t s) (Some Boot) None) (or_else (cond (has t s.reboots) (Some Reboot) None) (or_else (mail_of (first_at t s.queue)) (timer_from t 0 s.timers)))) None ≡ Some e → t < ticks
-    go true before h = ltb-true t ticks before
-    go false before h = absurd cc
-
 -- one turn more
 pub one_turn : (live : Condition → Bool) (net : Network) (n t m : ℕ) (ys : List Seen) (list next : List (List Seen)) → list ≡ kept_turns live net n t m ys → next ≡ flat_map (kept_copies live net n t) list → next ≡ kept_turns live net n t (m + 1) ys
 one_turn live net n t m ys list next made is =

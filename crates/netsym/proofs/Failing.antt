@@ -49,9 +49,6 @@ and_true false y p q = absurd cc
 abbrev own : State Term → Condition
 own s = s.own
 
-joined-append : (ss ts : List (State Term)) → joined (ss ++ ts) ≡ joined ss ++ joined ts
-joined-append ss ts = flat_map-append own ss ts
-
 abbrev node_own : Node Term → Condition
 node_own y = y.state.own
 

@@ -12,10 +12,6 @@ module _ {A : Type 0} (n : ℕ) where
   pub front_more : (front whole longer more : List A) → longer ≡ whole ++ more → IsLongFront n front whole → IsLongFront n front longer
   front_more front whole longer more is h = record { rest = h.rest ++ more; begins = is ∙ (ap (λ (l : List A). l ++ more) h.begins ∙ append_assoc front h.rest more); long = h.long }
 
-  -- the whole list is longer too
-  pub front_long : (front whole : List A) → IsLongFront n front whole → n < length whole
-  front_long front whole h = let same : length whole ≡ length front + length h.rest = ap length h.begins ∙ length-append front h.rest in let long = h.long in omega (arith, same, long)
-
   -- one item more, which is the last
   pub front_one : (old new whole : List A) (x : A) → (new ≡ old ++ (x ∷ [])) × (n < length new) → whole ≡ x ∷ [] → IsLongFront n new (old ++ whole)
   front_one old new whole x put is = front_whole new (old ++ whole) (put.0 ∙ ap (λ (l : List A). old ++ l) (sym is)) put.1

@@ -228,19 +228,3 @@ module _ (net : Network) (ms : List (Scenario Term)) (h : IsListing net ms) wher
       let number = numbers_at N (first_of N 0 node.dstate) node.line.node i (ap (λ (p : List ℕ). slice_get p node.line.node) (sym pick) ∙ node.with) in
       let there : slice_get k.scenario.nodes node.line.node ≡ Some y = ap (λ (s : Scenario Term). slice_get s.nodes node.line.node) (sym scenario) ∙ node.there in
       (record { d = node.dstate; n = node.line.node; columns = columns; kept = k; node = y; there = there; is = number.1 }, refl)
-
-  pub node_in : (i : ℕ) (f : Found i) → NodeIn net r i f.node
-  node_in i f =
-      let first = first_of N 0 f.d in
-      let less = less_nodes i f in
-      record {
-        line = line_of f.n f.node.state;
-        is = ap (slice_get r.states) f.is ∙ line_at f.d f.n f.columns f.kept f.node f.there;
-        dstate = f.d;
-        pick = numbers N first;
-        picked = is_pick f.d f.columns f.kept;
-        with = at_numbers N first f.n less ∙ ap (λ (k : ℕ). Some k) (sym f.is);
-        scenario = f.kept.scenario;
-        named = names_kept f.d f.columns f.kept;
-        there = f.there;
-      }

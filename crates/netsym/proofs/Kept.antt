@@ -95,10 +95,6 @@ module _ (live : Condition → Bool) where
       all-flat (IsKept live net) (kept_turns live net n t m) (kept_copies live net n t ys)
       (all-weaker (IsKept live net) (λ (zs : List Seen). AreKept live net (kept_turns live net n t m zs)) (λ zs k. turns_kept net n t m zs inside k) (kept_copies live net n t ys) (copies_kept net n t ys inside is))
 
-  -- all that is kept is whole and passes
-  pub at_kept : (net : Network) (t : ℕ) → IsNet net → AreKept live net (kept_at live net t)
-  at_kept net t fine = all_kept_of net (cob terms net t) (have_nodes net t fine)
-
   -- the same once the nodes before n have run
   pub before_kept : (net : Network) (t n : ℕ) → IsNet net → AreKept live net (kept_before live net t n)
   before_kept net t n fine = all_kept_of net (so_far net t n) (whole_so_far net t fine n)

@@ -129,18 +129,6 @@ module _ (live : Condition → Bool) (sides : HasSides live) (net : Network) (t 
       let more = flat_longer (kept_turns live net n t m) cs each in
       omega (arith, some, more)
 
-  -- So a list of copies gets no shorter along an event of each,
-  pub copies_longer : (n : ℕ) (xs : List (List Seen)) → n < length net.nodes → AreKept live net xs → length xs ≤ length (flat_map (kept_copies live net n t) xs)
-  copies_longer n xs inside are =
-      flat_longer (kept_copies live net n t) xs
-      (all-weaker (IsKept live net) (λ (ys : List Seen). 1 ≤ length (kept_copies live net n t ys)) (λ ys is. leads_on live sides net n t ys fine inside is) xs are)
-
-  -- along so many of them,
-  pub turns_longer : (n m : ℕ) (xs : List (List Seen)) → n < length net.nodes → AreKept live net xs → length xs ≤ length (flat_map (kept_turns live net n t m) xs)
-  turns_longer n m xs inside are =
-      flat_longer (kept_turns live net n t m) xs
-      (all-weaker (IsKept live net) (λ (ys : List Seen). 1 ≤ length (kept_turns live net n t m ys)) (λ ys is. turns_lead n m ys inside is) xs are)
-
   -- and along all of them.
   pub settled_longer : (n : ℕ) (xs : List (List Seen)) → n < length net.nodes → AreKept live net xs → length xs ≤ length (flat_map (kept_settled live net t n) xs)
   settled_longer n xs inside are =

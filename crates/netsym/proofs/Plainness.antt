@@ -119,10 +119,6 @@ module _ (net : Network) (plain : HasPlainPrograms net) where
 own_plain : (y : Node Term) → IsPlainNode y → IsPlainOwn y
 own_plain y p = p.0.condition
 
--- the own condition of each node that is met
-pub plain_met : (net : Network) → IsNet net → HasPlainPrograms net → (t n : ℕ) (s : Scenario Term) → MetAt terms net t n s → AllByRecursion (λ (y : Node Term). IsPlain y.state.own) s.nodes
-plain_met net good plain t n s m = all-weaker IsPlainNode IsPlainOwn own_plain s.nodes (met_plain net plain t n s m)
-
 -- and that after each path of an event
 pub plain_paths : (net : Network) → IsNet net → HasPlainPrograms net → (t n : ℕ) (s : Scenario Term) → MetAt terms net t n s → n < length s.nodes → (e : Event)
     → AllByRecursion (λ (p : Path Term). IsPlain p.state.own) (event_paths terms net n t e (node_at terms s n).state)

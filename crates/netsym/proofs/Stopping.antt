@@ -36,14 +36,6 @@ pub item_there : {A : Type 0} (list done rest : List A) (x : A) → list ≡ don
 item_there list done rest x all = subst (λ l. Contains l x) (sym all) (Contains-append_right done (x ∷ rest) x (0, omega arith, refl))
 
 module _ (live : Condition → Bool) (f : Condition → Condition) (net : Network) (t n : ℕ) where
-  -- one of the turned copies is met
-  pub turned_met : (list done rest : List (List Seen)) (copy : List Seen) → AreTurned live f net t n list → list ≡ done ++ (copy ∷ rest) → IsMetCopy live f net t n copy
-  turned_met list done rest copy turned all = record {
-    inside = turned.within;
-    start = turned.first;
-    from = turned.first_from;
-    turns = turned.turned;
-    met = subst (λ (l : List (List Seen)). Contains l copy) turned.are (item_there list done rest copy all);
   }
 
   -- more copies than allowed after a turn of one copy

@@ -23,10 +23,3 @@ tidy_more ds i e d less is so_far new =
     let l = literal_of d in
     let more : map literal_of (take (i + 1) ds) ≡ front ++ l ∷ [] = ap (map literal_of) (take_more ds i e less ∙ ap (λ (x : Decision). take i ds ++ (x ∷ [])) (sym is)) ∙ map-append literal_of (take i ds) (d ∷ []) in
     ap tidied more ∙ with_last [] front l ∙ ap (λ (c : Condition). with_new c l) so_far ∙ ap (λ (b : Bool). cond b front (front ++ l ∷ [])) new ∙ sym more
-
--- a node that was sent nothing, and whose own condition is written so, stays as it is
-pub shut_same : (f : Condition → Condition) (y : Seen) → y.fresh ≡ [] → f y.state.own ≡ y.state.own → shut_by f y ≡ y
-shut_same f y none same =
-    ap (λ (ps : List (Packet Term)). record y { state = record y.state { own = f (with_guards y.state.own ps) }; fresh = [] }) none
-    ∙ ap (λ (c : Condition). record y { state = record y.state { own = c }; fresh = [] }) same
-    ∙ ap (λ (ps : List (Packet Term)). record y { fresh = ps }) (sym none)

@@ -24,9 +24,6 @@ use Rattle.netsym.proofs.AlikeHeld.{tidy_seen, SaysSame, AreAlike, held_alike}
 pub forced_look : (s : State Term) → forced (look s).condition ≡ forced s.own
 forced_look s = read_tidied forced forced_blind s.own
 
-pub clash_look : (s : State Term) → clashes (look s).condition ≡ clashes s.own
-clash_look s = read_tidied clashes clash_blind s.own
-
 -- the conditions of looks say what own conditions say
 joined_tidy : (ss : List (State Term)) → tidied (joined_looks (map look ss)) ≡ tidied (joined ss)
 joined_tidy [] = refl
@@ -150,15 +147,3 @@ pub told_tidy : (net : Network) (t : ℕ) → IsNet net → map (map (λ (y : Se
 told_tidy net t fine =
     told_any (λ c. not (clashes c)) (λ c. ap not (read_tidied clashes clash_blind c)) clash_falls tidied tidied_twice net t fine
     ∙ (sym (maps_after (λ (y : Seen). y.state) look (kept_at (λ c. not (clashes c)) net t)) ∙ ap (map (map look)) (kept_states net t))
-
--- has the same traces,
-pub told_names : (net : Network) (t : ℕ) → IsNet net → map (map (λ (y : Seen). y.state.trace)) (held_at (λ c. not (clashes c)) tidied net t) ≡ map (map (λ (s : State Term). s.trace)) (kept net t)
-told_names net t fine =
-    sym (maps_after (λ (y : Seen). look y.state) (λ (l : Look). l.trace) (held_at (λ c. not (clashes c)) tidied net t))
-    ∙ (ap (map (map (λ (l : Look). l.trace))) (told_tidy net t fine) ∙ maps_after look (λ (l : Look). l.trace) (kept net t))
-
--- and has the same report.
-pub told_same : (net : Network) (t : ℕ) → IsNet net → report_of net (map (map (λ (y : Seen). y.state)) (held_at (λ c. not (clashes c)) tidied net t)) ≡ report_of net (kept net t)
-told_same net t fine =
-    let list = held_at (λ c. not (clashes c)) tidied net t in
-    report_looks net (map (map (λ (y : Seen). y.state)) list) (kept net t) (maps_after (λ (y : Seen). y.state) look list ∙ told_tidy net t fine)
