@@ -1,6 +1,6 @@
 -- A node whose own condition clashes stays so in all that comes of it: such scenarios may be dropped at once, or at the end.
 use Rattle.std.proofs.Common.{◌≡◌, ℕ, zero, suc, ◌+◌, ◌<◌, Bool, true, false, cond, List, [], ◌∷◌, ◌++◌, length, map, flat_map, get_or, set, Option, Some, None, refl, sym, ap, subst, ◌∙◌, arith}
-use Rattle.std.specs.Prelude.{filter, not, ◌&&◌, Contains}
+use Rattle.std.specs.Prelude.{filter, not, ◌&&◌}
 use Rattle.std.specs.List.{AllByRecursion}
 use Rattle.kn_model.specs.Terms.{Term, terms}
 use Rattle.kn_packet.specs.declared.packet.Event.{Event}
@@ -9,13 +9,12 @@ use Rattle.kn_model.specs.Nodes.{State, Node}
 use Rattle.kn_model.specs.Nets.{Network, opening_node, no_plan}
 use Rattle.kn_model.specs.Due.{due, left}
 use Rattle.kn_model.specs.Paths.{Path, event_paths, parcels, node_after}
-use Rattle.kn_model.specs.Scenarios.{Scenario, node_at, posted, copied, copies, copies_of, turns, settled, settled_from, rest_of_tick, finish, close, close_node, got, got_all, cob}
+use Rattle.kn_model.specs.Scenarios.{Scenario, node_at, posted, copied, copies, copies_of, turns, settled, settled_from, rest_of_tick, finish, close, close_node, got, got_all}
 use Rattle.kn_model.specs.Conditions.{Condition}
-use Rattle.kn_model.specs.Cores.{HasImpossible}
 use Rattle.kn_model.specs.Deciding.{clashes, none_clashes}
 use Rattle.kn_model.specs.Laws.{IsNet}
 use Rattle.kn_model.proofs.Lists.{all-map, all-flat, all-weaker}
-use Rattle.kn_model.proofs.Clashing.{clash_stays, clash_is_impossible}
+use Rattle.kn_model.proofs.Clashing.{clash_stays}
 use Rattle.kn_model.proofs.Implied.{PathImplied, paths_implied}
 
 abbrev pub state_in : Node Term → State Term

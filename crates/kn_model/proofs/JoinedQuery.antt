@@ -1,14 +1,11 @@
 -- Columns of one alternative each ask the same of the inputs as one condition that joins them all.
-use Rattle.std.proofs.Common.{◌≡◌, Bool, true, false, List, [], ◌∷◌, ◌++◌, map, flat_map, refl, sym, ap, subst, ◌∙◌, append_assoc}
+use Rattle.std.proofs.Common.{◌≡◌, Bool, true, false, List, [], ◌∷◌, ◌++◌, map, flat_map, refl, sym, ap, ◌∙◌, append_assoc}
 use Rattle.std.specs.Prelude.{◌&&◌, ◌||◌}
 use Rattle.std.proofs.lemmas.List.{append-nil}
 use Rattle.std.proofs.Math.Path.{fun_ext}
 use Rattle.kn_model.specs.Terms.{Valuation}
-use Rattle.kn_model.specs.Conditions.{Condition, Read, Query, holds, columns_hold, reads_in, reads_of, widest, that, that_with, IsLeast, IsImpossible}
-use Rattle.kn_model.specs.Deciding.{IsPlain, clashes, forced}
+use Rattle.kn_model.specs.Conditions.{Condition, Read, Query, holds, columns_hold, reads_in, reads_of, widest, that, that_with}
 use Rattle.kn_model.proofs.Under.{holds-append}
-use Rattle.kn_model.proofs.Clashing.{clash_is_impossible}
-use Rattle.kn_model.proofs.LeastInputs.{forced_is_least}
 
 -- each condition as a column of one alternative
 abbrev pub alone : List Condition → List (List Condition)

@@ -8,12 +8,11 @@ use Rattle.std.proofs.lemmas.List.Concat.{flat_map-append}
 use Rattle.std.proofs.Math.Nat.{le-max_left, le-max_right, max-le, max_comm}
 use Rattle.std.proofs.Math.Path.{fun_ext}
 use Rattle.kn_model.specs.Terms.{Term, Valuation}
-use Rattle.kn_model.specs.Conditions.{Condition, Read, Query, holds, read_cmp, put_before, put_read, widest, reads_of, that, that_with, IsLeast, IsImpossible}
+use Rattle.kn_model.specs.Conditions.{Condition, Read, holds, read_cmp, put_before, put_read, widest, reads_of, that, that_with}
 use Rattle.kn_model.specs.Nodes.{State}
-use Rattle.kn_model.specs.Deciding.{IsPlain, clashes, forced, joined}
+use Rattle.kn_model.specs.Deciding.{joined}
 use Rattle.kn_model.proofs.Under.{holds-append}
-use Rattle.kn_model.proofs.Clashing.{clash_is_impossible}
-use Rattle.kn_model.proofs.LeastInputs.{Under, under_on, Place, place, forced_is_least}
+use Rattle.kn_model.proofs.LeastInputs.{Under, under_on, Place, place}
 use Rattle.kn_model.proofs.JoinedQuery.{alone, all_of, reads_append, joined_query}
 
 -- the answer of a comparison, from the places
