@@ -198,12 +198,12 @@ among_at (p ∷ ps) (suc i) place e = inr (among_at ps i place e)
 -- a place that is among others stands at one of their places
 place_of : (ps : List ℕ) (k : ℕ) → IsAmong ps k → (i : ℕ) × (slice_get ps i ≡ Some k)
 place_of [] k among = absurd among
-place_of (p ∷ ps) k among = elim among [ | inl e ↦ (zero, ap (λ (q : ℕ). Some q) (sym e)) | inr m ↦ let there = place_of ps k m in (suc there.0, there.1) ]
+place_of (p ∷ ps) k among = elim among [ inl e ↦ (zero, ap (λ (q : ℕ). Some q) (sym e)) | inr m ↦ let there = place_of ps k m in (suc there.0, there.1) ]
 
 among_take : (ps : List ℕ) (i k : ℕ) → IsAmong (take i ps) k → IsAmong ps k
 among_take ps zero k among = absurd among
 among_take [] (suc i) k among = absurd among
-among_take (p ∷ ps) (suc i) k among = elim among [ | inl e ↦ inl e | inr m ↦ inr (among_take ps i k m) ]
+among_take (p ∷ ps) (suc i) k among = elim among [ inl e ↦ inl e | inr m ↦ inr (among_take ps i k m) ]
 
 -- places in order stand in the list
 pub in_order_within : (ns : List Node) (ps : List ℕ) (i k : ℕ) → AreInOrder ns ps → IsAmong (take i ps) k → k < length ns
