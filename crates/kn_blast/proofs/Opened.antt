@@ -4,7 +4,7 @@ use Rattle.std.specs.Prelude.{◌↔◌, slice_get}
 use Rattle.std.proofs.lemmas.Option.{slice_get_within}
 use Rattle.kn_term.specs.declared.node.Node.{Node}
 use Rattle.kn_term.specs.declared.node.Ref.{Ref}
-use Rattle.kn_term.specs.Terms.{Valuation, Reads, listed}
+use Rattle.kn_term.specs.Terms.{Valuation, listed}
 use Rattle.kn_term.specs.Nodes.{term_at, AreNodes}
 use Rattle.kn_term.specs.Valuations.{AreEntries}
 use Rattle.kn_blast.specs.declared.inputs.InputBits.{InputBits}
@@ -31,12 +31,13 @@ opened_read ns roots places ps a entries same are exact read e n k h =
     let width = width_opened a entries n k e in
     subst (λ (v : ℕ). RootsRead ns roots n k v) (sym width) (width_read ns roots places a are exact (subst (λ (l : List ℕ). AreRead ns l a) same read) n k (subst (λ (v : ℕ). 0 < v) width h))
 
--- what one root reads
-pub one_read : (ns : List Node) (r : Ref) (n k width : ℕ) → RootsRead ns (r ∷ []) n k width → Reads n k width (term_at ns r.index)
-one_read ns r n k width reads = go reads.0 reads.1 reads.2 reads.3 where
-  go : (place : ℕ) (s : Ref) → slice_get (r ∷ []) place ≡ Some s → Reads n k width (term_at ns s.index) → Reads n k width (term_at ns r.index)
-  go zero s e h = let same : s ≡ r = cc in subst (λ (t : Ref). Reads n k width (term_at ns t.index)) same h
-  go (suc place) s e h = absurd (omega (arith, slice_get_within (r ∷ []) (suc place) s e))
+-- what the roots read is covered, so what a term at a place that they reach reads is
+pub covered_reached : (ns : List Node) (roots : List Ref) (entries : List InputBits) (place : ℕ) → AreNodes ns → IsReached ns roots place → ((i : ℕ) (r : Ref) → slice_get roots i ≡ Some r → Covers entries (term_at ns r.index)) → Covers entries (term_at ns place)
+covered_reached ns roots entries place are up covers n k width reads =
+    let read = reached_reads ns roots place n k width are up reads in
+    covers read.0 read.1 read.2 n k width read.3
 
-pub covered_reached : (ns : List Node) (r : Ref) (entries : List InputBits) (place : ℕ) → AreNodes ns → IsReached ns (r ∷ []) place → Covers entries (term_at ns r.index) → Covers entries (term_at ns place)
-covered_reached ns r entries place are up covers n k width reads = covers n k width (one_read ns r n k width (reached_reads ns (r ∷ []) place n k width are up reads))
+-- what is so of one root is so of each of a list of it alone
+pub one_root : (P : Ref → Type 0) (r : Ref) → P r → (i : ℕ) (s : Ref) → slice_get (r ∷ []) i ≡ Some s → P s
+one_root P r one zero s e = let same : r ≡ s = cc in subst P same one
+one_root P r one (suc i) s e = absurd (omega (arith, slice_get_within (r ∷ []) (suc i) s e))

@@ -1,6 +1,6 @@
 -- Tables of words of edges, and the words of nodes out of those of their operands.
 use Rattle.std.proofs.Common.{◌≡◌, ℕ, ◌≤◌, ◌%◌, ◌^◌, Bool, true, false, cond, List, [], ◌∷◌, ◌++◌, length, None, Some, refl, ap, sym, subst, ◌∙◌, inl, inr}
-use Rattle.std.specs.Prelude.{◌⊎◌, Option, nat_eq}
+use Rattle.std.specs.Prelude.{◌⊎◌, Option, nat_eq, slice_get}
 use Rattle.std.specs.Map.{lookup}
 use Rattle.std.specs.HashMap.{HashMap, get, IsEmpty}
 use Rattle.std.proofs.lemmas.Bool.{eqb-true, eq-eqb}
@@ -17,8 +17,9 @@ use Rattle.kn_blast.specs.declared.inputs.InputBits.{InputBits}
 use Rattle.kn_blast.specs.Spelling.{number, AllStand, Grows, Spells}
 use Rattle.kn_blast.specs.Inputs.{width_of, bits_of, word_before, given_by, IsGivenBy, Covers, IsOpenIn}
 use Rattle.kn_term.specs.Reached.{IsAmong}
+use Rattle.kn_term.proofs.Finding.{get_push}
 use Rattle.kn_term.proofs.Reaching.{among_push}
-use Rattle.kn_blast.specs.Tables.{IsWordOf, AreWords, HasWordOf, HasOperandWords, AreWordsOf}
+use Rattle.kn_blast.specs.Tables.{IsWordOf, AreWords, HasWordOf, HasOperandWords, AreWordsOf, AreReadAt}
 use Rattle.kn_blast.proofs.Numbers.{spells_is, spells_items, spells_kept, AllStand-kept}
 use Rattle.kn_blast.proofs.Laying.{word_before-cut, begins_longer}
 
@@ -110,3 +111,20 @@ word_given law bits entries a t w given is = is ∙ law t (given_by bits entries
 -- the same edges for the same term
 pub word_same : (ns : List AigNode) (entries : List InputBits) (t u : Term) (out es : List Edge) → out ≡ es → t ≡ u → IsWordOf ns entries u es → IsWordOf ns entries t out
 word_same ns entries t u out es same e is = spells_items ns out es 16 _ same (subst (λ (v : Term). IsWordOf ns entries v es) (sym e) is)
+
+-- words that stand, and one more
+pub stand_push : (ns : List AigNode) (words : List (List Edge)) (w : List Edge) → ((i : ℕ) (es : List Edge) → slice_get words i ≡ Some es → AllStand ns es) → AllStand ns w → (i : ℕ) (es : List Edge) → slice_get (words ++ w ∷ []) i ≡ Some es → AllStand ns es
+stand_push ns words w all one i es is = elim (get_push words w i es is) [
+  | inl was ↦ all i es was.1
+  | inr here ↦ subst (AllStand ns) here.1 one
+]
+
+-- words that are read for the roots before this one, and its own
+pub read_push : (table : ℕ → Option (List Edge)) (roots : List Ref) (words : List (List Edge)) (w : List Edge) (r : Ref) → slice_get roots (length words) ≡ Some r → AreReadAt table roots words → ((es : List Edge) → table r.index ≡ Some es → w ≡ es) → AreReadAt table roots (words ++ w ∷ [])
+read_push table roots words w r here are one i s word es root is at = elim (get_push words w i word is) [
+  | inl was ↦ are i s word es root was.1 at
+  | inr last ↦
+      let both : Some s ≡ Some r = sym root ∙ (ap (slice_get roots) last.0 ∙ here) in
+      let same : s ≡ r = cc in
+      sym last.1 ∙ one es (sym (ap (λ (q : Ref). table q.index) same) ∙ at)
+]

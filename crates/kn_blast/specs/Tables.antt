@@ -1,8 +1,9 @@
 -- Words of edges for the places of a list of terms.
-use Rattle.std.specs.Prelude.{◌≡◌, ℕ, List, length, Option, Some}
+use Rattle.std.specs.Prelude.{◌≡◌, ℕ, List, length, slice_get, Option, Some}
 use Rattle.kn_aig.specs.declared.gates.Edge.{Edge}
 use Rattle.kn_aig.specs.declared.gates.AigNode.{AigNode}
 use Rattle.kn_term.specs.declared.node.Node.{Node}
+use Rattle.kn_term.specs.declared.node.Ref.{Ref}
 use Rattle.kn_term.specs.Terms.{Term, ev}
 use Rattle.kn_term.specs.Nodes.{term_at}
 use Rattle.kn_blast.specs.declared.inputs.InputBits.{InputBits}
@@ -29,3 +30,7 @@ HasOperandWords ns entries terms table n = (place : ℕ) → IsOperand n place �
 -- a table has the words of the terms at these places
 abbrev pub AreWordsOf : List AigNode → List InputBits → List Node → (ℕ → Option (List Edge)) → List ℕ → Type 0
 AreWordsOf ns entries terms table places = (place : ℕ) → IsAmong places place → HasWordOf ns entries terms table place
+
+-- the word for each root is the one that a table has at its place, if it has one
+abbrev pub AreReadAt : (ℕ → Option (List Edge)) → List Ref → List (List Edge) → Type 0
+AreReadAt table roots words = (i : ℕ) (r : Ref) (word es : List Edge) → slice_get roots i ≡ Some r → slice_get words i ≡ Some word → table r.index ≡ Some es → word ≡ es

@@ -8,10 +8,11 @@ ghost use Rattle.kn_term.specs.Nodes.{term_at, term_of, terms_of};
 ghost use Rattle.kn_aig.specs.Circuits.{Stands};
 ghost use Rattle.kn_blast.specs.Spelling.{number, AllStand, Grows, Has, Spells};
 ghost use Rattle.kn_blast.specs.Inputs.{given_by, width_of, word_before, IsGivenBy, Covers, IsOpenIn, BeginsWithInputs};
-ghost use Rattle.kn_term.specs.Reached.{IsAmong, AreInOrder};
+ghost use Rattle.kn_term.specs.Reached.{RootsStand, IsAmong, AreInOrder};
+ghost use Rattle.kn_term.specs.declared.node.Ref.{Ref as RefOf};
 ghost use Rattle.kn_aig.specs.declared.gates.Edge.{Edge as EdgeOf};
 ghost use Rattle.std.specs.HashMap.{get};
-ghost use Rattle.kn_blast.specs.Tables.{IsWordOf, AreWords, HasOperandWords, AreWordsOf};
+ghost use Rattle.kn_blast.specs.Tables.{IsWordOf, AreWords, HasOperandWords, AreWordsOf, AreReadAt};
 
 use crate::inputs::InputMap;
 use crate::nodes::{chosen, word_edges};
@@ -43,12 +44,53 @@ pub fn blast(
     ensures value { IfOk result (λ word. (bits : List Bool) (a : Valuation) → IsGivenBy bits inputs.now a → number bits aig.new word ≡ ev a (term_at terms.now r.index)) }
     ensures grows { Grows aig.old aig.new }
 {
+    let words = blast_all(alloc, terms, &[r], aig, inputs)?;
+    Ok(words[0])
+}
+
+/// The circuits of terms, one for each root in their order, each as `blast` makes it; a node that several terms have in
+/// them has one word of edges. Err is want of memory.
+pub fn blast_all(
+    alloc: Global,
+    terms: &Terms,
+    roots: &[Ref],
+    aig: &mut Aig,
+    inputs: &InputMap,
+) -> Result<Vec<Word>, AllocError>
+    requires stand { RootsStand (length terms.now) roots.now }
+    requires open { IsOpenIn inputs.now aig.old }
+    requires covers { (place : ℕ) (r : RefOf) → slice_get roots.now place ≡ Some r → Covers inputs.now (term_at terms.now r.index) }
+    ensures many { IfOk result (λ words. length words.items ≡ length roots.now) }
+    ensures stand { IfOk result (λ words. (place : ℕ) (word : List EdgeOf) → slice_get words.items place ≡ Some word → AllStand aig.new word) }
+    ensures value { IfOk result (λ words. (place : ℕ) (r : RefOf) (word : List EdgeOf) → slice_get roots.now place ≡ Some r → slice_get words.items place ≡ Some word → (bits : List Bool) (a : Valuation) → IsGivenBy bits inputs.now a → number bits aig.new word ≡ ev a (term_at terms.now r.index)) }
+    ensures grows { Grows aig.old aig.new }
+{
     // 'order' is called for its clause that operands stand before their node, which the proof cites.
     terms.order();
     words_by_inputs();
-    let needed = reached(alloc, terms, &[r])?;
+    let needed = reached(alloc, terms, roots)?;
     let table = words_of(alloc, terms, aig, inputs, &needed)?;
-    Ok(word_at(aig, &table, r))
+    words_at(alloc, aig, &table, roots)
+}
+
+/// The words that a table has for roots.
+fn words_at(
+    alloc: Global,
+    aig: &Aig,
+    table: &HashMap<usize, Word>,
+    roots: &[Ref],
+) -> Result<Vec<Word>, AllocError>
+    requires { AreWords aig.now (get nat_eq table.now) }
+    ensures many { IfOk result (λ words. length words.items ≡ length roots.now) }
+    ensures stand { IfOk result (λ words. (place : ℕ) (word : List EdgeOf) → slice_get words.items place ≡ Some word → AllStand aig.now word) }
+    ensures read { IfOk result (λ words. AreReadAt (get nat_eq table.now) roots.now words.items) }
+{
+    let mut words = Vec::new(alloc);
+    for root in roots {
+        let word = word_at(aig, table, *root);
+        words.push(word)?;
+    }
+    Ok(words)
 }
 
 /// For each place that is needed the word of its term.

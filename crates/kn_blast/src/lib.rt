@@ -12,9 +12,10 @@ mod operators;
 mod shifts;
 mod words;
 
-pub use circuit::{Word, blast};
+pub use circuit::{Word, blast, blast_all};
 pub use inputs::{InputBits, InputMap};
 pub use std::alloc::AllocError as Memory;
+pub use words::is_not_zero;
 
 #[cfg(test)]
 mod tests;
