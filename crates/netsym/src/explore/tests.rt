@@ -104,6 +104,7 @@ fn what_is_impossible_is_left_out(rt: HostRuntime) -> Result<(), Fail> {
     for (scenario, (first, second)) in scenarios.iter().zip([("00", "0"), ("11", "0")]) {
         assert!(rt; are_traces(scenario, first, second)?);
         // A condition says nothing twice.
+        assert_eq!(rt; scenario.len(), 2);
         assert_eq!(rt; scenario.state(0).own().len(), 1);
         assert_eq!(rt; scenario.state(1).own().len(), 0);
     }
