@@ -1,15 +1,9 @@
 -- What the exploration does with copies of the whole network.
-use Rattle.std.proofs.Common.{◌≡◌, ℕ, zero, suc, ◌+◌, ◌<◌, Bool, true, false, cond, List, [], ◌∷◌, length, map, get_or, refl, ap, sym, ◌∙◌, arith}
-use Rattle.std.specs.Prelude.{◌&&◌, flat_map, nat_lt, Some, None}
-use Rattle.std.proofs.lemmas.Bool.{false≢true, ltb-true}
+use Rattle.std.proofs.Common.{◌≡◌, ℕ, zero, suc, ◌+◌, ◌<◌, Bool, true, false, List, [], ◌∷◌, length, map, get_or, refl, ap, sym, ◌∙◌, arith}
+use Rattle.std.specs.Prelude.{◌&&◌, flat_map}
+use Rattle.std.proofs.lemmas.Bool.{false≢true}
 use Rattle.std.proofs.lemmas.List.{length-map}
-use Rattle.kn_packet.specs.declared.packet.Event.{Event}
-use Rattle.kn_packet.specs.declared.packet.Event.TheVariants.{Boot, Reboot}
-use Rattle.kn_model.specs.Terms.{Term}
-use Rattle.kn_model.specs.Packets.{first_at}
-use Rattle.kn_model.specs.Nodes.{State, is_running}
 use Rattle.kn_model.specs.Nets.{Network}
-use Rattle.kn_model.specs.Due.{due, or_else, boot_due, has, mail_of, timer_from}
 use Rattle.kn_model.specs.Conditions.{Condition}
 use Rattle.netsym.specs.Keeping.{Seen, states_in, seen_at, all_live, Falls, AreKept, kept_turns, kept_copies, kept_settled}
 use Rattle.netsym.specs.Shown.{state_at}

@@ -18,7 +18,7 @@ use Rattle.kn_built.specs.Picks.{picks}
 use Rattle.kn_model.specs.Reports.{Report, StateLine, ends, IsLine, Shows, Names, IsPick, all_picks, trace_at, pick_name, NodeIn, Rises, trace_cmp, AreRuns, pick_condition, singles}
 use Rattle.netsym.specs.Shown.{states_of}
 use Rattle.netsym.specs.Listing.{line_of, numbers, dstates_from, report_of}
-use Rattle.netsym.proofs.Numbered.{some_one, get_map, map_get, get_less, all_at, Matches, AllMatch, AreLong, all_match, matches_at, first_of, firsts_apart, Row, row_of, row_at, numbers_at, at_numbers, picks_single, one_of, only, spot_of}
+use Rattle.netsym.proofs.Numbered.{some_one, get_map, map_get, get_less, all_at, Matches, AllMatch, AreLong, all_match, matches_at, first_of, firsts_apart, Row, row_of, row_at, numbers_at, picks_single, one_of, only, spot_of}
 
 -- What is known of the scenarios that are kept.
 pub record IsListing (net : Network) (ms : List (Scenario Term)) : Type 0 where

@@ -14,7 +14,7 @@ use Rattle.kn_model.specs.Scenarios.{Scenario, node_at, copied, copies, copies_o
 use Rattle.kn_model.specs.Conditions.{Condition}
 use Rattle.kn_model.specs.Laws.{IsNet}
 use Rattle.kn_model.proofs.Lists.{all-map, all-flat, all-weaker}
-use Rattle.kn_model.proofs.Naming.{HaveNodes, have_nodes}
+use Rattle.kn_model.proofs.Naming.{HaveNodes}
 use Rattle.netsym.specs.Keeping.{Seen, seen_of, seen_in, seen_at, closed, copied_along, all_live, path_lives, kept_copies, kept_copies_of, kept_turns, kept_settled, kept_at, kept_before, IsKept, AreKept, Falls}
 use Rattle.netsym.proofs.KeptSeen.{node_seen, copy_seen, close_seen}
 use Rattle.netsym.proofs.KeptLive.{length_along, along_live, copies_live, copies_dead, closed_dead, opening_live}

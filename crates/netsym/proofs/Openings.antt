@@ -1,16 +1,13 @@
 -- Networks at their start, and nodes that are sent packets.
-use Rattle.std.proofs.Common.{◌≡◌, ℕ, suc, ◌+◌, ◌<◌, Bool, false, cond, List, [], ◌∷◌, ◌++◌, length, map, drop, get_or, set, refl, ap, sym, ◌∙◌, arith, append_assoc}
-use Rattle.std.specs.Prelude.{filter, nat_eq}
+use Rattle.std.proofs.Common.{◌≡◌, ℕ, suc, ◌+◌, ◌<◌, List, [], ◌∷◌, ◌++◌, length, map, drop, get_or, refl, ap, sym, ◌∙◌, arith, append_assoc}
 use Rattle.std.specs.List.{AllByRecursion}
 use Rattle.std.proofs.Math.Seq.{drop-cons}
-use Rattle.std.proofs.lemmas.Bool.{eq-eqb}
 use Rattle.kn_model.specs.Terms.{Term, terms}
 use Rattle.kn_model.specs.Packets.{Packet}
 use Rattle.kn_model.specs.Nodes.{state_of}
 use Rattle.kn_model.specs.Nets.{Plan, opening_node}
-use Rattle.kn_model.specs.Paths.{Path}
 use Rattle.netsym.specs.Plans.{IsBarePlan}
-use Rattle.netsym.specs.Keeping.{Seen, seen_of, mailed, received, mailed_from, seen_at, copied_along}
+use Rattle.netsym.specs.Keeping.{Seen, seen_of, received, mailed_from}
 
 -- a node that has run nothing yet
 abbrev pub start : Seen

@@ -17,7 +17,7 @@ use Rattle.netsym.specs.Deciding.{live_of}
 use Rattle.netsym.specs.Writing.{written_of}
 use Rattle.netsym.specs.Stopping.{StopsIn, StopsBefore, IsPassed}
 use Rattle.netsym.specs.Keeping.{Seen, kept_copies, kept_settled}
-use Rattle.netsym.specs.Limiting.{IsMetCopy, AreTurned, HasManyPaths, HasManyCopies, InTurns, InNodes, copies_before}
+use Rattle.netsym.specs.Limiting.{AreTurned, HasManyPaths, HasManyCopies, InTurns, InNodes, copies_before}
 use Rattle.netsym.proofs.Kept.{turns_last}
 use Rattle.netsym.proofs.Plainness.{plain_paths, plain_pre}
 use Rattle.netsym.proofs.Traces.{paths_over}
@@ -36,8 +36,6 @@ pub item_there : {A : Type 0} (list done rest : List A) (x : A) → list ≡ don
 item_there list done rest x all = subst (λ l. Contains l x) (sym all) (Contains-append_right done (x ∷ rest) x (0, omega arith, refl))
 
 module _ (live : Condition → Bool) (f : Condition → Condition) (net : Network) (t n : ℕ) where
-  }
-
   -- more copies than allowed after a turn of one copy
   pub many_in_turns : (list done rest : List (List Seen)) (copy : List Seen) (out : List (List Seen)) → AreTurned live f net t n list → list ≡ done ++ (copy ∷ rest) → out ≡ flat_map (kept_copies live net n t) done ++ kept_copies live net n t copy
       → net.limits.dstates < length out → HasManyCopies live f net t

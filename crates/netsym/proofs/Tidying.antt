@@ -5,11 +5,9 @@ use Rattle.std.proofs.lemmas.List.{map-append, take_more}
 use Rattle.kn_model.specs.Values.{Literal}
 use Rattle.kn_model.specs.Terms.{Term}
 use Rattle.kn_model.specs.Conditions.{Condition}
-use Rattle.kn_model.specs.Packets.{Packet}
 use Rattle.netsym.specs.declared.explore.value.Decision.{Decision}
 use Rattle.netsym.specs.Views.{literal_of}
-use Rattle.netsym.specs.Keeping.{Seen, with_guards}
-use Rattle.netsym.specs.Holding.{is_idle, has_literal, with_new, with_all_new, tidied, shut_by}
+use Rattle.netsym.specs.Holding.{is_idle, has_literal, with_new, with_all_new, tidied}
 
 with_last : (c d : Condition) (l : Literal Term) → with_all_new c (d ++ l ∷ []) ≡ with_new (with_all_new c d) l
 with_last c [] l = refl
