@@ -1,6 +1,6 @@
 //! The top call on worked files, over a source and a sink in memory.
 
-use crate::rows::{HALF_REPORT, HALVES, HALVES_REPORT, ROWS};
+use crate::rows::{HALF_REPORT, HALVES, HALVES_REPORT, ROWS, Row};
 use crate::status::Status;
 use crate::top::run_alone;
 use kn_io::{MemSink, MemSource};
@@ -48,11 +48,18 @@ pub fn ends(alloc: Global, file: &[u8], status: Status, text: &str) -> Result<bo
     Ok(call_on(alloc, &COMMAND, file, &[], &[])?.is(status, text))
 }
 
+/// Whether the call on a worked file ends as it must.
+fn is_right(alloc: Global, row: &Row) -> Result<bool, Fail> {
+    let (from, to) = row.change;
+    let file = row.file.replace(alloc, from, to)?;
+    ends(alloc, file.as_bytes(), row.status, row.text)
+}
+
 #[test]
 fn worked_files(rt: HostRuntime) -> Result<(), Fail> {
-    for (name, file, (from, to), status, text) in ROWS {
-        let file = file.replace(rt.alloc(), from, to)?;
-        assert!(rt; ends(rt.alloc(), file.as_bytes(), status, text)?, "{name}");
+    for row in &ROWS {
+        let right = is_right(rt.alloc(), row)?;
+        assert!(rt; right, "{}", row.name);
     }
     Ok(())
 }
