@@ -13,7 +13,7 @@ use Rattle.kn_model.specs.Alikes.{OneByOne, AlikePath, WaitsAlike, TermAlike, Co
 use Rattle.kn_model.specs.Laws.{AlikeReceived, GivenMeans, Apart, AreApart}
 use Rattle.kn_model.proofs.Lists.{all-map, all-weaker}
 use Rattle.kn_model.proofs.Parting.{paths_apart}
-use Rattle.kn_model.proofs.EachWay.{Kept, IsHere, all_ways}
+use Rattle.kn_model.proofs.EachWay.{kept_by, Kept, IsHere, all_ways}
 use Rattle.kn_model.proofs.OneByOne.{pairs-put}
 use Rattle.kn_model.proofs.AlikeRows.{set_queue, order_alike}
 use Rattle.kn_model.proofs.AlikeTerms.{holds_join, joins, keeps_terms}
@@ -42,19 +42,7 @@ abbrev pub IsShut : Way Term → Type 0
 IsShut w = IsImpossible (that (w.state.own ++ w.literals))
 
 shut_kept : (here : Here Term) → Kept terms here IsShut
-shut_kept here = record {
-  registers = λ w r x h. h;
-  memory = λ w ms h. h;
-  timer = λ w number d g h. h;
-  cancel = λ w number h. h;
-  place = λ w pc h. h;
-  outcome = λ w o h. h;
-  count = λ w h. h;
-  sent = λ w ws l g h. h;
-  clear = λ w h. h;
-  loss = λ w h. h;
-  double = λ q w h. h;
-}
+shut_kept here = kept_by terms here (λ bits literals trace own. IsImpossible (that (own ++ literals)))
 
 pub shut_longer : (c d : Condition) → IsImpossible (that c) → IsImpossible (that (c ++ d))
 shut_longer c d h a = holds_join a c d ∙ ap (λ (b : Bool). b && holds a d) (h a)

@@ -29,6 +29,22 @@ pub record Kept {V : Type 0} (k : Values V) (here : Here V) (P : Way V → Type 
   pub loss : (w : Way V) → P w → P (with_loss k w)
   pub double : (p : Packet V) (w : Way V) → P w → P (doubled k here p w)
 
+-- what is said of a way's bits, literals, trace and own condition alone is kept: only decisions change these
+pub kept_by : {V : Type 0} (k : Values V) (here : Here V) (Q : List Bool → List (Literal V) → List Bool → List (Literal V) → Type 0) → Kept k here (λ w. Q w.bits w.literals w.state.trace w.state.own)
+kept_by k here Q = record {
+  registers = λ w a x h. h;
+  memory = λ w ms h. h;
+  timer = λ w number d later h. h;
+  cancel = λ w number h. h;
+  place = λ w pc h. h;
+  outcome = λ w o h. h;
+  count = λ w h. h;
+  sent = λ w words l later h. h;
+  clear = λ w h. h;
+  loss = λ w h. h;
+  double = λ p w h. h;
+}
+
 -- what the network promises of where an event runs
 pub record IsHere {V : Type 0} (here : Here V) : Type 0 where
   pub delays : AllByRecursion (λ (l : Link). 1 ≤ l.delay) here.links

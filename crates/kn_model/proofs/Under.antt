@@ -19,7 +19,7 @@ use Rattle.kn_model.specs.Nodes.{zeros, Bounds, Fuel, is_running}
 use Rattle.kn_model.specs.Nets.{Link}
 use Rattle.kn_model.specs.Rows.{Here, Way, Effect, Goes, Stops, Decides, effect, register, with_register, with_memory, failed, next, counted, fresh_input, sent_on, sent_over, sends_over, link_at, span, element, with_element, payload_of, sender_of, packet_on, sets, operate}
 use Rattle.kn_model.specs.Paths.{goes_if, goes_by, decided, splits, after, one_way, effect_of, effect_at, ways, runs_from, runs, chooses, is_no, cleared, with_loss, doubled, arrives, comes, event_ways}
-use Rattle.kn_model.proofs.EachWay.{Kept, IsHere, Each, at_keeps, all_ways, all_runs, all_arrives}
+use Rattle.kn_model.proofs.EachWay.{kept_by, Kept, IsHere, Each, at_keeps, all_ways, all_runs, all_arrives}
 
 -- lists
 pub get_or_map : {A B : Type 0} (f : A → B) (xs : List A) (i : ℕ) (d : A) → get_or (map f xs) i (f d) ≡ f (get_or xs i d)
@@ -214,19 +214,7 @@ module _ (a : Valuation) (here : Here Term) (good : IsHere here) where
   IsDead w = holds a w.literals ≡ false
 
   dead_kept : Kept terms here IsDead
-  dead_kept = record {
-    registers = λ w r x h. h;
-    memory = λ w ms h. h;
-    timer = λ w number d g h. h;
-    cancel = λ w number h. h;
-    place = λ w pc h. h;
-    outcome = λ w o h. h;
-    count = λ w h. h;
-    sent = λ w ws l g h. h;
-    clear = λ w h. h;
-    loss = λ w h. h;
-    double = λ q w h. h;
-  }
+  dead_kept = kept_by terms here (λ bits literals trace own. holds a literals ≡ false)
 
   dead_decided : (b : Bool) (l : Literal Term) (w : Way Term) → IsDead w → IsDead (decided terms b l w)
   dead_decided b l w h = holds-append a w.literals (l ∷ []) ∙ ap (λ (x : Bool). x && holds a (l ∷ [])) h
@@ -272,19 +260,7 @@ module _ (a : Valuation) (here : Here Term) (good : IsHere here) where
   IsLive w = holds a w.literals ≡ true
 
   live_kept : Kept terms here IsLive
-  live_kept = record {
-    registers = λ w r x h. h;
-    memory = λ w ms h. h;
-    timer = λ w number d g h. h;
-    cancel = λ w number h. h;
-    place = λ w pc h. h;
-    outcome = λ w o h. h;
-    count = λ w h. h;
-    sent = λ w ws l g h. h;
-    clear = λ w h. h;
-    loss = λ w h. h;
-    double = λ q w h. h;
-  }
+  live_kept = kept_by terms here (λ bits literals trace own. holds a literals ≡ true)
 
   one_live : (w : Way Term) → holds a w.literals ≡ true → (way_under a w ∷ []) ≡ alive a (w ∷ [])
   one_live w e = rw e refl

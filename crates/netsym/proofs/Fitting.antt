@@ -13,7 +13,7 @@ use Rattle.kn_model.specs.Rows.{Here, Way, Effect}
 use Rattle.kn_model.specs.Rows as rows
 use Rattle.kn_model.specs.Paths.{Path, goes_by, decided, after, one_way, effect_at, ways, path_of}
 use Rattle.kn_model.specs.Conditions.{Condition}
-use Rattle.kn_model.proofs.EachWay.{Kept, IsHere, Each, at_keeps, all_ways}
+use Rattle.kn_model.proofs.EachWay.{kept_by, Kept, IsHere, Each, at_keeps, all_ways}
 use Rattle.kn_model.proofs.Sending.{is_here}
 use Rattle.kn_model.proofs.Dropping.{none_passes}
 use Rattle.netsym.specs.declared.explore.here.Spot.{Spot}
@@ -33,19 +33,7 @@ spot_good net spot at =
 
 -- no change of a row touches own condition or literals
 pub own_kept : (here : Here Term) (P : Condition → Type 0) → Kept terms here (λ w. P (w.state.own ++ w.literals))
-own_kept here P = record {
-  registers = λ w a x p. p;
-  memory = λ w ms p. p;
-  timer = λ w number d h p. p;
-  cancel = λ w number p. p;
-  place = λ w pc p. p;
-  outcome = λ w o p. p;
-  count = λ w p. p;
-  sent = λ w words l h p. p;
-  clear = λ w p. p;
-  loss = λ w p. p;
-  double = λ q w p. p;
-}
+own_kept here P = kept_by terms here (λ bits literals trace own. P (own ++ literals))
 
 abbrev pub ways_after : Stepped → (Way Term → List (Way Term)) → List (Way Term)
 ways_after (Goes w) go = go w

@@ -19,7 +19,7 @@ use Rattle.kn_model.specs.Limits.{IsPrefix, Begins, NoneBegins, TooManyPaths}
 use Rattle.kn_model.specs.Laws.{IsNet, Apart, AreApart}
 use Rattle.kn_model.proofs.Lists.{all-map, all-filter, itself}
 use Rattle.kn_model.proofs.Implied.{all-contains, PathImplied, paths_implied}
-use Rattle.kn_model.proofs.EachWay.{Kept, all_event_ways}
+use Rattle.kn_model.proofs.EachWay.{kept_by, Kept, all_event_ways}
 use Rattle.kn_model.proofs.Sending.{is_here}
 use Rattle.kn_model.proofs.Parting.{paths_apart}
 use Rattle.kn_model.proofs.Clashing.{not_true}
@@ -78,19 +78,7 @@ IsEven w = length w.literals ≡ length w.bits
 
 -- each step keeps that,
 even_kept : (here : Here Term) → Kept terms here IsEven
-even_kept here = record {
-  registers = λ w a x h. h;
-  memory = λ w ms h. h;
-  timer = λ w number d g h. h;
-  cancel = λ w number h. h;
-  place = λ w pc h. h;
-  outcome = λ w o h. h;
-  count = λ w h. h;
-  sent = λ w words l g h. h;
-  clear = λ w h. h;
-  loss = λ w h. h;
-  double = λ q w h. h;
-}
+even_kept here = kept_by terms here (λ bits literals trace own. length literals ≡ length bits)
 
 -- a decision adds one to both,
 one_more : {A B : Type 0} (xs : List A) (x : A) (ys : List B) (y : B) → length xs ≡ length ys → length (xs ++ x ∷ []) ≡ length (ys ++ y ∷ [])
