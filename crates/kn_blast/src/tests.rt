@@ -158,11 +158,6 @@ fn terms_have_words_in_the_order_of_their_roots(rt: HostRuntime) -> Result<(), F
     let alloc = rt.alloc();
     assert_eq!(rt; sum_and_side(alloc, 3, 9)?, Some((12, 3, true)));
     assert_eq!(rt; sum_and_side(alloc, 0, 9)?, Some((9, 0, false)));
-    Ok(())
-}
-
-#[test]
-fn types_are_shared(_rt: HostRuntime) -> Result<(), Fail> {
     is_shared::<InputBits>();
     is_shared::<InputMap>();
     is_shared::<Word>();
