@@ -1,4 +1,4 @@
--- Programs, plans, links, limits and networks are equal exactly where `==` says so.
+-- Programs, plans, links, limits, networks and what files give are equal exactly where `==` says so.
 use Rattle.std.proofs.Common.{◌≡◌, ℕ, List, Bool, true, false, eqb, refl, ap, sym, ◌∙◌}
 use Rattle.std.specs.Prelude.{◌&&◌}
 use Rattle.std.specs.Bool.{Decides}
@@ -11,10 +11,13 @@ use Rattle.kn_code.specs.Code.{Code}
 use Rattle.kn_code.specs.contracts.program.InstrPartialEq.TheImpl as instr_eq
 use Rattle.kn_code.specs.contracts.program.ProgramPartialEq.TheImpl as program_eq
 use Rattle.kn_code.proofs.Equal.{same_handlers, other_instrs}
+use Rattle.kn_term.specs.Terms.{Valuation}
+use Rattle.kn_term.proofs.Equal.{given_decides}
 use Rattle.kn_plan.specs.contracts.net.LinkPartialEq.TheImpl as link_eq
 use Rattle.kn_plan.specs.contracts.net.LimitsPartialEq.TheImpl as limits_eq
 use Rattle.kn_plan.specs.Nets.{Plan, Link, Limits, Network}
-use Rattle.kn_plan.specs.Equality.{plan_eq, network_eq}
+use Rattle.kn_plan.specs.Files.{File}
+use Rattle.kn_plan.specs.Equality.{plan_eq, network_eq, name_eq, file_eq}
 
 pub program_decides : (p q : Code) → Decides (program_eq.eq-value.it p q) (p ≡ q)
 program_decides p q = go (pointwise instr_eq.eq-value.it p.instrs q.instrs) refl where
@@ -73,9 +76,27 @@ network_decides m n =
     (decides_both _ _ (slice_eq-Decides program_decides m.programs n.programs _ refl) (decides_both _ _ (slice_eq-Decides plan_decides m.nodes n.nodes _ refl)
     (decides_both _ _ (slice_eq-Decides link_decides m.links n.links _ refl) (limits_decide m.limits n.limits))))
 
+pub names_decide : (m n : List ℕ) → Decides (name_eq m n) (m ≡ n)
+names_decide m n = slice_eq-Decides Decides-eqb m n (name_eq m n) refl
+
+same_file : (f g : File) → (f.network ≡ g.network) × ((f.names ≡ g.names) × (f.inputs ≡ g.inputs)) → f ≡ g
+same_file f g e =
+    ap (λ (v : Network). record f { network = v }) e.0
+    ∙ (ap (λ (v : List (List ℕ)). record f { network = g.network; names = v }) e.1.0
+    ∙ ap (λ (v : Valuation). record f { network = g.network; names = g.names; inputs = v }) e.1.1)
+
+pub file_decides : (f g : File) → Decides (file_eq f g) (f ≡ g)
+file_decides f g =
+    decides_same _ (same_file f g) (λ e. (ap (λ (x : File). x.network) e, (ap (λ (x : File). x.names) e, ap (λ (x : File). x.inputs) e)))
+    (decides_both _ _ (network_decides f.network g.network)
+    (decides_both _ _ (slice_eq-Decides names_decide f.names g.names _ refl) (slice_eq-Decides given_decides f.inputs g.inputs _ refl)))
+
 -- a test that has the answer of `==` decides
 pub by_plan_eq : (p q : Plan) (b : Bool) → b ≡ plan_eq p q → Decides b (p ≡ q)
 by_plan_eq p q b is = (λ e. (plan_decides p q).0 (sym is ∙ e), λ s. is ∙ (plan_decides p q).1 s)
 
-pub by_network_eq : (m n : Network) (b : Bool) → b ≡ network_eq m n → Decides b (m ≡ n)
-by_network_eq m n b is = (λ e. (network_decides m n).0 (sym is ∙ e), λ s. is ∙ (network_decides m n).1 s)
+pub by_name_eq : (m n : List ℕ) (b : Bool) → b ≡ name_eq m n → Decides b (m ≡ n)
+by_name_eq m n b is = slice_eq-Decides Decides-eqb m n b is
+
+pub by_file_eq : (f g : File) (b : Bool) → b ≡ file_eq f g → Decides b (f ≡ g)
+by_file_eq f g b is = (λ e. (file_decides f g).0 (sym is ∙ e), λ s. is ∙ (file_decides f g).1 s)

@@ -3,7 +3,7 @@
 
 mod net;
 
-pub use net::{Limits, Link, Net, NodePlan};
+pub use net::{Limits, Link, Name, Net, NodePlan};
 pub use std::alloc::AllocError as Memory;
 
 #[cfg(test)]

@@ -2,10 +2,11 @@
 
 ghost use Rattle.std.specs.Prelude.{◌≡◌, ◌↔◌, IfOk, IsTrue, slice_get, filter, nat_eq};
 ghost use Rattle.kn_plan.specs.Nets.{links_of};
-ghost use Rattle.kn_plan.specs.Valid.{IsNet};
-ghost use Rattle.kn_plan.specs.Equality.{plan_eq, network_eq};
+ghost use Rattle.kn_plan.specs.Files.{IsFile};
+ghost use Rattle.kn_plan.specs.Equality.{plan_eq, name_eq, network_eq, file_eq};
 
 use kn_code::Program;
+use kn_term::Valuation;
 use std::alloc::{AllocError, Global};
 use std::marker::Model;
 
@@ -38,14 +39,24 @@ pub struct Limits {
     pub dstates: usize,
 }
 
-/// A network: 1 to 64 programs, 1 to 64 nodes that name their programs by number, links between nodes, at most 1,024
-/// and at most 16 from one node, and limits. All numbers are in their ranges.
+/// The name of a program, as its bytes.
+#[derive(Debug, Drop)]
+pub struct Name {
+    pub bytes: Vec<u8>,
+}
+
+/// A network as a file gives it: 1 to 64 programs, 1 to 64 nodes that name their programs by number, links between
+/// nodes, at most 1,024 and at most 16 from one node, limits, a name for each program, and the inputs of a replay. A name
+/// is 1 to 32 ASCII letters, ASCII digits, `_` or `-`, and no two programs have one name. The inputs are at most 65,536,
+/// each of a node of the network, with an index of 0 to 65,535. All numbers are in their ranges.
 #[derive(Debug, Drop)]
 pub struct Net {
     pub programs: Vec<Program>,
     pub nodes: Vec<NodePlan>,
     pub links: Vec<Link>,
     pub limits: Limits,
+    pub names: Vec<Name>,
+    pub inputs: Valuation,
 }
 
 impl Model for NodePlan {
@@ -56,15 +67,22 @@ impl Model for NodePlan {
     ghost view = { λ p. record { program = p.program; loss = p.loss; duplicate = p.duplicate; reboot = p.reboot.items } };
 }
 
+impl Model for Name {
+    ghost use Rattle.std.specs.Prelude.{ℕ, List};
+
+    ghost Value = { List ℕ };
+
+    ghost view = { λ n. n.bytes.items };
+}
+
 impl Model for Net {
-    ghost use Rattle.kn_plan.specs.Nets.{Network};
-    ghost use Rattle.kn_plan.specs.Valid.{IsNet};
+    ghost use Rattle.kn_plan.specs.Files.{File, IsFile};
 
-    ghost Value = { Network };
+    ghost Value = { File };
 
-    ghost view = { λ n. record { programs = n.programs.items; nodes = n.nodes.items; links = n.links.items; limits = n.limits } };
+    ghost view = { λ n. record { network = record { programs = n.programs.items; nodes = n.nodes.items; links = n.links.items; limits = n.limits }; names = n.names.items; inputs = n.inputs } };
 
-    ghost invariant = { λ n. IsNet (record { programs = n.programs.items; nodes = n.nodes.items; links = n.links.items; limits = n.limits }) };
+    ghost invariant = { λ n. IsFile (record { network = record { programs = n.programs.items; nodes = n.nodes.items; links = n.links.items; limits = n.limits }; names = n.names.items; inputs = n.inputs }) };
 }
 
 impl NodePlan {
@@ -81,8 +99,19 @@ impl NodePlan {
     }
 }
 
+impl Name {
+    /// An equal name. Err is want of memory.
+    pub fn copy(&self) -> Result<Name, AllocError>
+        ensures { IfOk result (λ n. n ≡ self.now) }
+    {
+        Ok(Name {
+            bytes: Vec::from_slice(*self.bytes.allocator(), self.bytes.as_slice())?,
+        })
+    }
+}
+
 impl Net {
-    /// An equal network. Err is want of memory.
+    /// An equal network, with equal names and inputs. Err is want of memory.
     pub fn copy(&self) -> Result<Net, AllocError>
         ensures { IfOk result (λ n. n ≡ self.now) }
     {
@@ -92,20 +121,22 @@ impl Net {
             nodes: copy_plans(alloc, &self.nodes)?,
             links: Vec::from_slice(alloc, self.links.as_slice())?,
             limits: self.limits,
+            names: copy_names(alloc, &self.names)?,
+            inputs: self.inputs.copy()?,
         })
     }
 
     /// A link of a node by its number, counted from 0 among the node's links in the order of `links`. None exactly
     /// where the node has no such link.
     pub fn link_of(&self, node: u32, number: u16) -> Option<Link>
-        ensures { result ≡ slice_get (links_of self.now node) number }
+        ensures { result ≡ slice_get (links_of self.now.network node) number }
     {
         link_among(&self.links, node, number)
     }
 
-    /// That all numbers are in their ranges, for a caller that needs it in a proof.
+    /// That all numbers, names and inputs are in their ranges, for a caller that needs it in a proof.
     pub fn bounds(&self)
-        ensures { IsNet self.now }
+        ensures { IsFile self.now }
     {
         let _ = &self.links;
     }
@@ -127,16 +158,32 @@ impl PartialEq for NodePlan {
     }
 }
 
+impl PartialEq for Name {
+    ghost use Rattle.kn_plan.specs.Equality.{name_eq, name_per};
+
+    ghost eq = { name_eq };
+
+    ghost laws = { name_per };
+
+    /// Two names are equal exactly where their bytes are.
+    fn eq(&self, other: &Name) -> bool
+        ensures eq { result ≡ name_eq self.now other.now }
+        ensures same { IsTrue result ↔ (self.now ≡ other.now) }
+    {
+        self.bytes == other.bytes
+    }
+}
+
 impl PartialEq for Net {
-    ghost use Rattle.kn_plan.specs.Equality.{network_eq, network_per};
+    ghost use Rattle.kn_plan.specs.Equality.{file_eq, file_per};
 
-    ghost eq = { network_eq };
+    ghost eq = { file_eq };
 
-    ghost laws = { network_per };
+    ghost laws = { file_per };
 
-    /// Two networks are equal exactly where their programs, nodes, links and limits are.
+    /// Two networks are equal exactly where their programs, nodes, links, limits, names and inputs are.
     fn eq(&self, other: &Net) -> bool
-        ensures eq { result ≡ network_eq self.now other.now }
+        ensures eq { result ≡ file_eq self.now other.now }
         ensures same { IsTrue result ↔ (self.now ≡ other.now) }
     {
         is_same_net(self, other)
@@ -150,11 +197,18 @@ fn is_same_plan(p: &NodePlan, q: &NodePlan) -> bool
     p.program == q.program && p.loss == q.loss && p.duplicate == q.duplicate && p.reboot == q.reboot
 }
 
-/// Whether all parts of two networks are equal.
-fn is_same_net(m: &Net, n: &Net) -> bool
-    ensures { result ≡ network_eq m.now n.now }
+/// Whether the programs, nodes, links and limits of two networks are equal.
+fn is_same_network(m: &Net, n: &Net) -> bool
+    ensures { result ≡ network_eq m.now.network n.now.network }
 {
     m.programs == n.programs && m.nodes == n.nodes && m.links == n.links && m.limits == n.limits
+}
+
+/// Whether two networks are equal, with their names and inputs.
+fn is_same_net(m: &Net, n: &Net) -> bool
+    ensures { result ≡ file_eq m.now n.now }
+{
+    is_same_network(m, n) && m.names == n.names && m.inputs == n.inputs
 }
 
 /// Equal programs, in the same order.
@@ -175,6 +229,17 @@ fn copy_plans(alloc: Global, plans: &[NodePlan]) -> Result<Vec<NodePlan>, AllocE
     let mut copies = Vec::new(alloc);
     for plan in plans {
         copies.push(plan.copy()?)?;
+    }
+    Ok(copies)
+}
+
+/// Equal names, in the same order.
+fn copy_names(alloc: Global, names: &[Name]) -> Result<Vec<Name>, AllocError>
+    ensures { IfOk result (λ v. v.items ≡ names.now) }
+{
+    let mut copies = Vec::new(alloc);
+    for name in names {
+        copies.push(name.copy()?)?;
     }
     Ok(copies)
 }

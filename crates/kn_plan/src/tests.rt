@@ -4,6 +4,7 @@ ghost use Rattle.std.specs.Prelude.{◌≡◌, ◌≤◌, ◌∷◌, [], IfOk};
 
 use super::*;
 use kn_code::{Program, decode};
+use kn_term::Valuation;
 use std::alloc::{AllocError, Global};
 use std::test::Fail;
 
@@ -40,9 +41,31 @@ fn plan(alloc: Global, loss: u8) -> Result<NodePlan, AllocError>
     })
 }
 
+/// The name of the program: the letter, and one byte of each other kind.
+fn name(alloc: Global, letter: u8) -> Result<Name, AllocError>
+    ensures { IfOk result (λ n. n ≡ letter ∷ 90 ∷ 57 ∷ 95 ∷ 45 ∷ []) }
+{
+    Ok(Name {
+        bytes: Vec::from_array(alloc, [letter, b'Z', b'9', b'_', b'-'])?,
+    })
+}
+
+/// The last input that node 1 can have.
+fn last_input(alloc: Global, word: u16) -> Result<Valuation, AllocError>
+    requires { 1 ≤ word }
+    ensures { IfOk result (λ a. a ≡ record { node = 1; index = 65535; word = word } ∷ []) }
+{
+    let mut inputs = Valuation::new(alloc);
+    inputs.set(1, 65_535, word)?;
+    Ok(inputs)
+}
+
 /// Two nodes with 16 links from node 0 to node 1, of delays 1 to 16, and one back among them, of delay 99.
-fn two_nodes(alloc: Global, ticks: u32) -> Result<Net, AllocError>
-    requires { ticks ≤ 4096 }
+fn two_nodes(alloc: Global, ticks: u32, letter: u8, word: u16) -> Result<Net, AllocError>
+    requires ticks { ticks ≤ 4096 }
+    requires least { 97 ≤ letter }
+    requires most { letter ≤ 122 }
+    requires word { 1 ≤ word }
 {
     let links = [
         link(0, 1, 1),
@@ -74,12 +97,14 @@ fn two_nodes(alloc: Global, ticks: u32) -> Result<Net, AllocError>
             states: 4096,
             dstates: 4096,
         },
+        names: Vec::from_array(alloc, [name(alloc, letter)?])?,
+        inputs: last_input(alloc, word)?,
     })
 }
 
 #[test]
 fn numbers_the_links_of_each_node(rt: HostRuntime) -> Result<(), Fail> {
-    let net = two_nodes(rt.alloc(), 3)?;
+    let net = two_nodes(rt.alloc(), 3, b'a', 5)?;
     for number in 0..16u16 {
         assert!(rt; net.link_of(0, number) == Some(link(0, 1, u32::from(number) + 1)));
     }
@@ -92,14 +117,19 @@ fn numbers_the_links_of_each_node(rt: HostRuntime) -> Result<(), Fail> {
 
 #[test]
 fn copies_are_equal(rt: HostRuntime) -> Result<(), Fail> {
-    let net = two_nodes(rt.alloc(), 3)?;
+    let net = two_nodes(rt.alloc(), 3, b'a', 5)?;
     net.bounds();
     assert!(rt; net.copy()? == net);
-    assert!(rt; two_nodes(rt.alloc(), 4)? != net);
+    assert!(rt; two_nodes(rt.alloc(), 4, b'a', 5)? != net);
+    assert!(rt; two_nodes(rt.alloc(), 3, b'z', 5)? != net);
+    assert!(rt; two_nodes(rt.alloc(), 3, b'a', 6)? != net);
+    assert_eq!(rt; net.copy()?.inputs.at(0), Some((1, 65_535, 5)));
+    assert!(rt; net.names[0].copy()? == net.names[0]);
     let lossy = plan(rt.alloc(), 15)?;
     assert!(rt; lossy.copy()? == lossy);
     assert!(rt; plan(rt.alloc(), 0)? != lossy);
     is_shared::<NodePlan>();
+    is_shared::<Name>();
     is_shared::<Link>();
     is_shared::<Limits>();
     is_shared::<Net>();

@@ -9,7 +9,8 @@ use Rattle.hex.proofs.HexLemmas.{decode_of-ok}
 use Rattle.kn_code.specs.Code.{Code}
 use Rattle.kn_plan.specs.Nets.{Network, Link}
 use Rattle.kn_plan.specs.Valid.{IsLink}
-use Rattle.netsym.specs.Form.{ProgramText, FileText, IsNameByte, IsProgramOf, IsPlaceOf, names_of, HasCounts, Describes, IsFile, OneNetwork}
+use Rattle.kn_plan.specs.Files.{File}
+use Rattle.netsym.specs.Form.{ProgramText, FileText, IsNameByte, IsProgramOf, IsPlaceOf, names_of, HasCounts, Describes, DescribesAll, IsFile, IsWholeFile, OneNetwork}
 use Rattle.netsym.specs.FormReading.{text_of}
 use Rattle.netsym.specs.FormViews.{Refuses, Finds}
 use Rattle.netsym.specs.declared.form.FormFault.{FormFault}
@@ -69,11 +70,11 @@ described_readable text net counts h =
 file_read : (bytes : List ℕ) (net : Network) → (file : IsFile bytes net) → text_of bytes ≡ Some file.text
 file_read bytes net file = ap text_of file.spelled ∙ text_read file.text file.counts (described_readable file.text net file.counts file.describes)
 
--- what the texts describe is the network of the file
-pub file_of : (bytes : List ℕ) (text : FileText) (net : Network) → text_of bytes ≡ Some text → Describes text net → IsFile bytes net
-file_of bytes text net e h =
+-- what the texts give is what the file gives
+pub file_of : (bytes : List ℕ) (text : FileText) (file : File) → text_of bytes ≡ Some text → DescribesAll text file → IsWholeFile bytes file
+file_of bytes text file e h =
     let is = text_is bytes text e in
-    record { text = text; spelled = is.0; counts = is.1; describes = h }
+    record { form = record { text = text; spelled = is.0; counts = is.1; describes = h.network }; names = h.names; inputs = h.inputs }
 
 pub not_read : (bytes : List ℕ) → text_of bytes ≡ None → (net : Network) → IsFile bytes net → ⊥
 not_read bytes e net file = let wrong : None ≡ Some file.text = sym e ∙ file_read bytes net file in absurd cc

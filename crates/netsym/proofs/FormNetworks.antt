@@ -10,11 +10,13 @@ use Rattle.std.proofs.lemmas.Slice.Eq.{slice_eq-Decides}
 use Rattle.std.proofs.lemmas.Option.{slice_get-map, slice_get-get_or, slice_get_within}
 use Rattle.std.proofs.lemmas.List.{length-map, take_more, map-append}
 use Rattle.kn_code.specs.Code.{Code}
+use Rattle.kn_term.specs.Terms.{Valuation}
 use Rattle.kn_plan.specs.Nets.{Network, Plan, Link, Limits, links_of}
 use Rattle.kn_plan.specs.Valid.{IsPlan, IsLink, IsNet}
+use Rattle.kn_plan.specs.Files.{File, IsFile}
 use Rattle.netsym.specs.Plans.{plan_with, limits_with, network_with}
-use Rattle.netsym.specs.Form.{ProgramText, FileText, IsProgramOf, EachOf, names_of, AreDifferent, IsPlaceOf, HasCounts, Describes}
-use Rattle.netsym.specs.FormViews.{program_text, text_bytes, file_text, Refuses}
+use Rattle.netsym.specs.Form.{ProgramText, FileText, IsName, IsProgramOf, EachOf, names_of, AreDifferent, IsPlaceOf, HasCounts, Describes, DescribesAll}
+use Rattle.netsym.specs.FormViews.{program_text, name_bytes, text_bytes, file_text, Refuses}
 use Rattle.netsym.specs.declared.form.text.ProgramLines.{ProgramLines}
 use Rattle.netsym.specs.declared.form.text.FileLines.{FileLines}
 use Rattle.netsym.specs.declared.form.FormFault.{FormFault}
@@ -283,3 +285,43 @@ pub parts_make : (ticks : ℕ) (programs : List Code) (places : List ℕ) (links
     → network_with ticks programs places links ≡ net_of_parts programs plans copies (limits_with ticks)
 parts_make ticks programs places links plans copies e d =
     ap (λ (l : List Plan). net_of_parts programs l links (limits_with ticks)) (sym e) ∙ ap (λ (l : List Link). net_of_parts programs plans l (limits_with ticks)) (sym d)
+
+names_fit : (texts : List ProgramText) (programs : List Code) → EachOf IsProgramOf texts programs → AllByRecursion IsName (names_of texts)
+names_fit [] programs h = tt
+names_fit (t ∷ texts) [] h = absurd h
+names_fit (t ∷ texts) (c ∷ programs) h = (h.0.name, names_fit texts programs h.1)
+
+abbrev file_of_parts : Network → List (List ℕ) → Valuation → File
+file_of_parts net names inputs = record { network = net; names = names; inputs = inputs }
+
+-- the names of the programs, where slices hold the texts
+pub names_seen : (ps : List ProgramLines) → map name_bytes ps ≡ names_of (map program_text ps)
+names_seen [] = refl
+names_seen (p ∷ ps) = ap (λ (l : List (List ℕ)). p.name.now ∷ l) (names_seen ps)
+
+-- all that texts give is in range
+all_in_range : (text : FileText) (net : Network) → HasCounts text → Describes text net → IsFile (file_of_parts net (names_of text.programs) [])
+all_in_range text net counts h =
+    let of_programs : length text.programs ≡ length h.programs = each_length IsProgramOf text.programs h.programs h.are_programs in
+    record {
+      network = described_in_range text net counts h;
+      each = length-map text.programs (λ (t : ProgramText). t.name) ∙ (of_programs ∙ sym (ap (λ (m : Network). length m.programs) h.network));
+      names = names_fit text.programs h.programs h.are_programs;
+      different = h.different;
+      few = omega arith;
+      inputs = tt;
+      order = tt;
+    }
+
+-- the parts of what a file gives make it
+pub file_made : (P : File → Type 0) (m n : Network) (texts : List ProgramText) (names : List (List ℕ)) (inputs : Valuation) → m ≡ n → names ≡ names_of texts → inputs ≡ [] → P (file_of_parts m (names_of texts) []) → P (file_of_parts n names inputs)
+file_made P m n texts names inputs e d i h =
+    subst P (ap (λ (x : Network). file_of_parts x (names_of texts) []) e ∙ (ap (λ (l : List (List ℕ)). file_of_parts n l []) (sym d) ∙ ap (λ (a : Valuation). file_of_parts n names a) (sym i))) h
+
+-- what they make is in range
+pub made_in_range : (text : FileText) (m n : Network) (names : List (List ℕ)) (inputs : Valuation) → m ≡ n → names ≡ names_of text.programs → inputs ≡ [] → HasCounts text → Describes text m → IsFile (file_of_parts n names inputs)
+made_in_range text m n names inputs e d i counts h = file_made IsFile m n text.programs names inputs e d i (all_in_range text m counts h)
+
+-- and it is all that the texts give
+pub made_described : (text : FileText) (m n : Network) (names : List (List ℕ)) (inputs : Valuation) → m ≡ n → names ≡ names_of text.programs → inputs ≡ [] → Describes text m → DescribesAll text (file_of_parts n names inputs)
+made_described text m n names inputs e d i h = file_made (DescribesAll text) m n text.programs names inputs e d i (record { network = h; names = refl; inputs = refl })

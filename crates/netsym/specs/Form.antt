@@ -1,11 +1,13 @@
 -- The form of a network file: ticks, programs, nodes and links.
-use Rattle.std.specs.Prelude.{◌≡◌, ◌≢◌, ℕ, ◌≤◌, ◌⊎◌, List, [], ◌∷◌, ◌++◌, length, map, flat_map, codes, decimal, Some, Ok, slice_get}
+use Rattle.std.specs.Prelude.{◌≡◌, ℕ, ◌≤◌, List, [], ◌∷◌, ◌++◌, length, map, flat_map, codes, decimal, Some, Ok, slice_get}
 use Rattle.std.specs.List.{AllByRecursion}
 use Rattle.hex.specs.Hex.{decode_of}
 use Rattle.kn_code.specs.Code.{Code, IsValid}
 use Rattle.kn_code.specs.Rows.{spelling}
 use Rattle.kn_plan.specs.Nets.{Network, Link, links_of}
 use Rattle.kn_plan.specs.Valid.{IsLink}
+use Rattle.kn_plan.specs.Files.{File}
+pub use Rattle.kn_plan.specs.Files.{IsNameByte, IsName, AreDifferent}
 use Rattle.netsym.specs.Plans.{network_with, IsPlainCode}
 
 -- a program's name, and its bytecode in hexadecimal digits
@@ -37,16 +39,6 @@ abbrev pub file_bytes : FileText → List ℕ
 file_bytes f =
     codes "version = 1\nticks = " ++ (decimal f.ticks ++ (codes "\n" ++ (flat_map program_bytes f.programs ++ (flat_map node_bytes f.nodes ++ flat_map link_bytes f.links))))
 
--- an ASCII letter, an ASCII digit, `_` or `-`
-abbrev pub IsNameByte : ℕ → Type 0
-IsNameByte c = ((97 ≤ c) × (c ≤ 122)) ⊎ (((65 ≤ c) × (c ≤ 90)) ⊎ (((48 ≤ c) × (c ≤ 57)) ⊎ ((c ≡ 95) ⊎ (c ≡ 45))))
-
--- 1 to 32 of them
-pub record IsName (name : List ℕ) : Type 0 where
-  pub some : 1 ≤ length name
-  pub most : length name ≤ 32
-  pub bytes : AllByRecursion IsNameByte name
-
 -- the program that a text spells, and it is a plain one
 pub record IsProgramOf (text : ProgramText) (code : Code) : Type 0 where
   pub name : IsName text.name
@@ -66,11 +58,6 @@ EachOf R (x ∷ xs) (y ∷ ys) = R x y × EachOf R xs ys
 -- the programs' names
 abbrev pub names_of : List ProgramText → List (List ℕ)
 names_of ts = map (λ (t : ProgramText). t.name) ts
-
--- no two are the same
-abbrev pub AreDifferent : List (List ℕ) → Type 0
-AreDifferent [] = Unit {0}
-AreDifferent (x ∷ xs) = AllByRecursion (λ y. x ≢ y) xs × AreDifferent xs
 
 -- the place of a name among the names
 abbrev pub IsPlaceOf : List (List ℕ) → List ℕ → ℕ → Type 0
@@ -97,12 +84,24 @@ pub record Describes (text : FileText) (net : Network) : Type 0 where
   pub fan : (n : ℕ) → length (links_of net n) ≤ 16
   pub network : net ≡ network_with text.ticks programs places text.links
 
+-- All that the texts give: the network that they describe, the names of its programs, and no inputs.
+pub record DescribesAll (text : FileText) (file : File) : Type 0 where
+  pub network : Describes text file.network
+  pub names : file.names ≡ names_of text.programs
+  pub inputs : file.inputs ≡ []
+
 -- A file of the form, and the network that it describes.
 pub record IsFile (bytes : List ℕ) (net : Network) : Type 0 where
   pub text : FileText
   pub spelled : bytes ≡ file_bytes text
   pub counts : HasCounts text
   pub describes : Describes text net
+
+-- A file of the form, and all that it gives.
+pub record IsWholeFile (bytes : List ℕ) (file : File) : Type 0 where
+  pub form : IsFile bytes file.network
+  pub names : file.names ≡ names_of form.text.programs
+  pub inputs : file.inputs ≡ []
 
 -- bytes are a file of one network alone
 abbrev pub OneNetwork : Type 0

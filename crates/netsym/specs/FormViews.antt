@@ -15,6 +15,10 @@ text_bytes t = t.now
 abbrev pub program_text : ProgramLines → ProgramText
 program_text p = record { name = p.name.now; code = p.code.now }
 
+-- a program's name
+abbrev pub name_bytes : ProgramLines → List ℕ
+name_bytes p = p.name.now
+
 -- the texts of a file
 abbrev pub file_text : FileLines → FileText
 file_text f = record { ticks = f.ticks; programs = map program_text f.programs.items; nodes = map text_bytes f.nodes.items; links = f.links.items }

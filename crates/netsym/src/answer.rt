@@ -23,14 +23,14 @@ use std::fmt;
 
 /// The report of a network: what copying it whole at every branch gives at its last tick. It leaves nothing open.
 pub fn report_of_net(alloc: Global, net: &Net) -> Result<Report, Stop>
-    requires sound { IsNet net.now }
-    requires plain { HasPlainPrograms net.now }
-    requires bare { IsBare net.now }
-    ensures given { IfOk result (λ r. Gives r net.now) }
+    requires sound { IsNet net.now.network }
+    requires plain { HasPlainPrograms net.now.network }
+    requires bare { IsBare net.now.network }
+    ensures given { IfOk result (λ r. Gives r net.now.network) }
     ensures mapping { IfOk result (λ r. r.mapping ≡ Cob) }
-    ensures within { IfOk result (λ r. length r.dstates ≤ net.now.limits.dstates) }
+    ensures within { IfOk result (λ r. length r.dstates ≤ net.now.network.limits.dstates) }
     ensures decided { IfOk result (λ r. open_in r ≡ 0) }
-    ensures passed { IfErr result (IsPassed net.now) }
+    ensures passed { IfErr result (IsPassed net.now.network) }
 {
     let mut scenarios = explore(alloc, net)?;
     sort_by_name(node_count(net), &mut scenarios);
@@ -107,10 +107,10 @@ fn printed(alloc: Global, report: &Report) -> Result<Told, AllocError>
 
 /// The answer on a network.
 fn reported(alloc: Global, net: &Net) -> Result<Told, AllocError>
-    requires sound { IsNet net.now }
-    requires plain { HasPlainPrograms net.now }
-    requires bare { IsBare net.now }
-    ensures { IfOk result (λ t. IsEither net.now t.status (flat_map string_bytes t.lines.items)) }
+    requires sound { IsNet net.now.network }
+    requires plain { HasPlainPrograms net.now.network }
+    requires bare { IsBare net.now.network }
+    ensures { IfOk result (λ t. IsEither net.now.network t.status (flat_map string_bytes t.lines.items)) }
 {
     match report_of_net(alloc, net) {
         Ok(report) => {

@@ -2,7 +2,7 @@
 
 ghost use Rattle.std.specs.Prelude.{IfOk, IsErrOf};
 ghost use Rattle.kn_plan.specs.Nets.{Network};
-ghost use Rattle.netsym.specs.Form.{IsFile, OneNetwork};
+ghost use Rattle.netsym.specs.Form.{IsFile, IsWholeFile, OneNetwork};
 
 use kn_plan::Net;
 use network::net_of;
@@ -35,12 +35,12 @@ pub enum FormFault {
 /// A name is 1 to 32 letters, digits, `_` or `-`, and no two programs have one name. The code is bytecode in hexadecimal
 /// digits of either case. A node's program is the name of one of the programs. A link goes from one node to another,
 /// both by number from 0, its delay is 1 to 65,535, and at most 16 links go from one node. A number is digits that do
-/// not begin with 0, or `0` alone. The limits but the ticks have their defaults.
+/// not begin with 0, or `0` alone. The limits but the ticks have their defaults, and there are no inputs.
 ///
 /// - `NotForm`: the bytes are no such file.
 /// - `Memory`: want of memory.
 pub fn read_form(alloc: Global, bytes: &[u8]) -> Result<Net, FormFault>
-    ensures found { IfOk result (λ net. IsFile bytes.now net) }
+    ensures found { IfOk result (λ net. IsWholeFile bytes.now net) }
     ensures none { IsErrOf result FormFault.NotForm → (net : Network) → IsFile bytes.now net → ⊥ }
 {
     let text = read_text(alloc, bytes)?;

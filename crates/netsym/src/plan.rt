@@ -9,9 +9,9 @@ use kn_plan::Net;
 
 /// The program of a node.
 pub fn program_of(net: &Net, node: u32) -> &Program
-    requires { node < length net.now.nodes }
-    ensures value { result.now ≡ code_of net.now node }
-    ensures valid { IsValid (code_of net.now node) }
+    requires { node < length net.now.network.nodes }
+    ensures value { result.now ≡ code_of net.now.network node }
+    ensures valid { IsValid (code_of net.now.network node) }
 {
     let plan = &net.nodes[node as usize];
     let program = &net.programs[plan.program];
@@ -21,7 +21,7 @@ pub fn program_of(net: &Net, node: u32) -> &Program
 
 /// How many nodes there are, 1 to 64.
 pub fn node_count(net: &Net) -> u32
-    ensures count { result ≡ length net.now.nodes }
+    ensures count { result ≡ length net.now.network.nodes }
     ensures some { 1 ≤ result }
     ensures most { result ≤ 64 }
 {

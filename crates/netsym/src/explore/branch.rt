@@ -76,14 +76,14 @@ fn paths_of(
     event: Event,
     copy: &NetworkCopy,
 ) -> Result<Vec<PathTaken>, Stop>
-    requires sound { IsNet net.now }
-    requires plain { HasPlainPrograms net.now }
-    requires kept { IsKept (live_of keep) net.now copy.now }
-    requires met { IsMetCopy (live_of keep) (written_of keep) net.now place.tick place.node copy.now }
-    requires due { due net.now.limits.ticks place.tick (seen_at copy.now place.node).state ≡ Some (event_of event) }
+    requires sound { IsNet net.now.network }
+    requires plain { HasPlainPrograms net.now.network }
+    requires kept { IsKept (live_of keep) net.now.network copy.now }
+    requires met { IsMetCopy (live_of keep) (written_of keep) net.now.network place.tick place.node copy.now }
+    requires due { due net.now.network.limits.ticks place.tick (seen_at copy.now place.node).state ≡ Some (event_of event) }
     requires low { handler_of event < 10 }
-    ensures ok { IfOk result (λ v. v.items ≡ filter (path_lives (live_of keep)) (event_paths terms net.now place.node place.tick (event_of event) (seen_at copy.now place.node).state)) }
-    ensures stop { IfErr result (StopsIn keep net.now place.tick) }
+    ensures ok { IfOk result (λ v. v.items ≡ filter (path_lives (live_of keep)) (event_paths terms net.now.network place.node place.tick (event_of event) (seen_at copy.now place.node).state)) }
+    ensures stop { IfErr result (StopsIn keep net.now.network place.tick) }
 {
     let state = copy.node(place.node).state();
     match event_paths(alloc, net, keep, place.node, place.tick, event, state) {
@@ -105,12 +105,12 @@ fn put_copies(
     copy: NetworkCopy,
     out: &mut Vec<NetworkCopy>,
 ) -> Result<(), Stop>
-    requires sound { IsNet net.now }
-    requires plain { HasPlainPrograms net.now }
-    requires kept { IsKept (live_of keep) net.now copy }
-    requires met { IsMetCopy (live_of keep) (written_of keep) net.now place.tick place.node copy }
-    ensures ok { OnOk result (out.new.items ≡ out.old.items ++ kept_copies (live_of keep) net.now place.node place.tick copy) }
-    ensures stop { IfErr result (StopsIn keep net.now place.tick) }
+    requires sound { IsNet net.now.network }
+    requires plain { HasPlainPrograms net.now.network }
+    requires kept { IsKept (live_of keep) net.now.network copy }
+    requires met { IsMetCopy (live_of keep) (written_of keep) net.now.network place.tick place.node copy }
+    ensures ok { OnOk result (out.new.items ≡ out.old.items ++ kept_copies (live_of keep) net.now.network place.node place.tick copy) }
+    ensures stop { IfErr result (StopsIn keep net.now.network place.tick) }
 {
     net.bounds();
     let state = copy.node(place.node).state();
@@ -125,8 +125,8 @@ fn put_copies(
 
 /// Err where there are more copies than the network's limit of dstates.
 fn within_limit(net: &Net, tick: u32, copies: &[NetworkCopy]) -> Result<(), Stop>
-    ensures few { OnOk result (length copies.now ≤ net.now.limits.dstates) }
-    ensures stop { IfErr result (λ s. (s ≡ Stop.Limit LimitKind.Dstates tick) × (net.now.limits.dstates < length copies.now)) }
+    ensures few { OnOk result (length copies.now ≤ net.now.network.limits.dstates) }
+    ensures stop { IfErr result (λ s. (s ≡ Stop.Limit LimitKind.Dstates tick) × (net.now.network.limits.dstates < length copies.now)) }
 {
     if copies.len() > net.limits.dstates {
         return Err(Stop::Limit {
@@ -145,13 +145,13 @@ fn turn(
     place: Place,
     list: Vec<NetworkCopy>,
 ) -> Result<Vec<NetworkCopy>, Stop>
-    requires sound { IsNet net.now }
-    requires plain { HasPlainPrograms net.now }
-    requires kept { AreKept (live_of keep) net.now list.items }
-    requires turned { AreTurned (live_of keep) (written_of keep) net.now place.tick place.node list.items }
-    ensures ok { IfOk result (λ v. v.items ≡ flat_map (kept_copies (live_of keep) net.now place.node place.tick) list.items) }
-    ensures few { IfOk result (λ v. length v.items ≤ net.now.limits.dstates) }
-    ensures stop { IfErr result (StopsIn keep net.now place.tick) }
+    requires sound { IsNet net.now.network }
+    requires plain { HasPlainPrograms net.now.network }
+    requires kept { AreKept (live_of keep) net.now.network list.items }
+    requires turned { AreTurned (live_of keep) (written_of keep) net.now.network place.tick place.node list.items }
+    ensures ok { IfOk result (λ v. v.items ≡ flat_map (kept_copies (live_of keep) net.now.network place.node place.tick) list.items) }
+    ensures few { IfOk result (λ v. length v.items ≤ net.now.network.limits.dstates) }
+    ensures stop { IfErr result (StopsIn keep net.now.network place.tick) }
 {
     let mut out = Vec::new(alloc);
     for copy in list {
@@ -169,13 +169,13 @@ fn settle(
     place: Place,
     copy: NetworkCopy,
 ) -> Result<Vec<NetworkCopy>, Stop>
-    requires sound { IsNet net.now }
-    requires plain { HasPlainPrograms net.now }
-    requires node { place.node < length net.now.nodes }
-    requires kept { IsKept (live_of keep) net.now copy }
-    requires from { Contains (copies_before (live_of keep) (written_of keep) net.now place.tick place.node) copy }
-    ensures ok { IfOk result (λ v. v.items ≡ kept_settled (live_of keep) net.now place.tick place.node copy) }
-    ensures stop { IfErr result (StopsIn keep net.now place.tick) }
+    requires sound { IsNet net.now.network }
+    requires plain { HasPlainPrograms net.now.network }
+    requires node { place.node < length net.now.network.nodes }
+    requires kept { IsKept (live_of keep) net.now.network copy }
+    requires from { Contains (copies_before (live_of keep) (written_of keep) net.now.network place.tick place.node) copy }
+    ensures ok { IfOk result (λ v. v.items ≡ kept_settled (live_of keep) net.now.network place.tick place.node copy) }
+    ensures stop { IfErr result (StopsIn keep net.now.network place.tick) }
 {
     let turns = left(net.limits.ticks, place.tick, copy.node(place.node).state());
     let mut list = Vec::new(alloc);
@@ -194,14 +194,14 @@ fn settle_all(
     place: Place,
     list: Vec<NetworkCopy>,
 ) -> Result<Vec<NetworkCopy>, Stop>
-    requires sound { IsNet net.now }
-    requires plain { HasPlainPrograms net.now }
-    requires node { place.node < length net.now.nodes }
-    requires kept { AreKept (live_of keep) net.now list.items }
-    requires before { list.items ≡ copies_before (live_of keep) (written_of keep) net.now place.tick place.node }
-    ensures ok { IfOk result (λ v. v.items ≡ flat_map (kept_settled (live_of keep) net.now place.tick place.node) list.items) }
-    ensures few { IfOk result (λ v. length v.items ≤ net.now.limits.dstates) }
-    ensures stop { IfErr result (StopsIn keep net.now place.tick) }
+    requires sound { IsNet net.now.network }
+    requires plain { HasPlainPrograms net.now.network }
+    requires node { place.node < length net.now.network.nodes }
+    requires kept { AreKept (live_of keep) net.now.network list.items }
+    requires before { list.items ≡ copies_before (live_of keep) (written_of keep) net.now.network place.tick place.node }
+    ensures ok { IfOk result (λ v. v.items ≡ flat_map (kept_settled (live_of keep) net.now.network place.tick place.node) list.items) }
+    ensures few { IfOk result (λ v. length v.items ≤ net.now.network.limits.dstates) }
+    ensures stop { IfErr result (StopsIn keep net.now.network place.tick) }
 {
     let mut out = Vec::new(alloc);
     for copy in list {
@@ -220,13 +220,13 @@ fn run_tick(
     tick: u32,
     list: Vec<NetworkCopy>,
 ) -> Result<Vec<NetworkCopy>, Stop>
-    requires sound { IsNet net.now }
-    requires plain { HasPlainPrograms net.now }
-    requires kept { AreKept (live_of keep) net.now list.items }
-    requires held { list.items ≡ held_at (live_of keep) (written_of keep) net.now tick }
-    ensures ok { IfOk result (λ v. v.items ≡ run_nodes (live_of keep) (written_of keep) net.now tick (length net.now.nodes) list.items) }
-    ensures few { IfOk result (λ v. length list.items ≤ net.now.limits.dstates → length v.items ≤ net.now.limits.dstates) }
-    ensures stop { IfErr result (StopsIn keep net.now tick) }
+    requires sound { IsNet net.now.network }
+    requires plain { HasPlainPrograms net.now.network }
+    requires kept { AreKept (live_of keep) net.now.network list.items }
+    requires held { list.items ≡ held_at (live_of keep) (written_of keep) net.now.network tick }
+    ensures ok { IfOk result (λ v. v.items ≡ run_nodes (live_of keep) (written_of keep) net.now.network tick (length net.now.network.nodes) list.items) }
+    ensures few { IfOk result (λ v. length list.items ≤ net.now.network.limits.dstates → length v.items ≤ net.now.network.limits.dstates) }
+    ensures stop { IfErr result (StopsIn keep net.now.network tick) }
 {
     let mut list = list;
     for node in 0..node_count(net) {
@@ -257,12 +257,12 @@ fn shut_tick(
 
 /// What an exploration holds before a tick.
 fn copies_at(alloc: Global, net: &Net, keep: Keep, tick: u32) -> Result<Vec<NetworkCopy>, Stop>
-    requires sound { IsNet net.now }
-    requires plain { HasPlainPrograms net.now }
-    requires bare { IsBare net.now }
-    ensures ok { IfOk result (λ v. v.items ≡ held_at (live_of keep) (written_of keep) net.now tick) }
-    ensures few { IfOk result (λ v. length v.items ≤ net.now.limits.dstates) }
-    ensures stop { IfErr result (StopsBefore keep net.now tick) }
+    requires sound { IsNet net.now.network }
+    requires plain { HasPlainPrograms net.now.network }
+    requires bare { IsBare net.now.network }
+    ensures ok { IfOk result (λ v. v.items ≡ held_at (live_of keep) (written_of keep) net.now.network tick) }
+    ensures few { IfOk result (λ v. length v.items ≤ net.now.network.limits.dstates) }
+    ensures stop { IfErr result (StopsBefore keep net.now.network tick) }
 {
     net.bounds();
     let mut list = Vec::new(alloc);
@@ -277,12 +277,12 @@ fn copies_at(alloc: Global, net: &Net, keep: Keep, tick: u32) -> Result<Vec<Netw
 /// All scenarios of copying on branch before a tick, in the order of exploration: slow and plain, and nothing is left out.
 /// It stops where there are more than the network's limits allow, also where what is too many is impossible.
 pub fn all_copies(alloc: Global, net: &Net, tick: u32) -> Result<Vec<NetworkCopy>, Stop>
-    requires sound { IsNet net.now }
-    requires plain { HasPlainPrograms net.now }
-    requires bare { IsBare net.now }
-    ensures all { IfOk result (λ v. v.items ≡ map seen_in (cob terms net.now tick)) }
-    ensures few { IfOk result (λ v. length v.items ≤ net.now.limits.dstates) }
-    ensures stop { IfErr result (StopsBefore Keep.All net.now tick) }
+    requires sound { IsNet net.now.network }
+    requires plain { HasPlainPrograms net.now.network }
+    requires bare { IsBare net.now.network }
+    ensures all { IfOk result (λ v. v.items ≡ map seen_in (cob terms net.now.network tick)) }
+    ensures few { IfOk result (λ v. length v.items ≤ net.now.network.limits.dstates) }
+    ensures stop { IfErr result (StopsBefore Keep.All net.now.network tick) }
 {
     let copies = copies_at(alloc, net, Keep::All, tick)?;
     Ok(copies)
@@ -303,13 +303,13 @@ fn scenarios_of(alloc: Global, copies: Vec<NetworkCopy>) -> Result<Vec<Scenario>
 /// condition is impossible: no inputs lead there. Own conditions are written without what says nothing new. The
 /// scenarios come in the order of exploration. It stops where a limit of the network is passed.
 pub fn explore(alloc: Global, net: &Net) -> Result<Vec<Scenario>, Stop>
-    requires sound { IsNet net.now }
-    requires plain { HasPlainPrograms net.now }
-    requires bare { IsBare net.now }
-    ensures whole { IfOk result (λ v. AreLong (length net.now.nodes) v.items) }
-    ensures all { IfOk result (λ v. v.items ≡ map states_in (held_at (live_of Keep.Possible) tidied net.now net.now.limits.ticks)) }
-    ensures few { IfOk result (λ v. length v.items ≤ net.now.limits.dstates) }
-    ensures passed { IfErr result (IsPassed net.now) }
+    requires sound { IsNet net.now.network }
+    requires plain { HasPlainPrograms net.now.network }
+    requires bare { IsBare net.now.network }
+    ensures whole { IfOk result (λ v. AreLong (length net.now.network.nodes) v.items) }
+    ensures all { IfOk result (λ v. v.items ≡ map states_in (held_at (live_of Keep.Possible) tidied net.now.network net.now.network.limits.ticks)) }
+    ensures few { IfOk result (λ v. length v.items ≤ net.now.network.limits.dstates) }
+    ensures passed { IfErr result (IsPassed net.now.network) }
 {
     let copies = copies_at(alloc, net, Keep::Possible, net.limits.ticks)?;
     let scenarios = scenarios_of(alloc, copies)?;

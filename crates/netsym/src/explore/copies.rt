@@ -196,8 +196,8 @@ fn shut_node(
 impl NetworkCopy {
     /// All nodes at their start.
     pub fn opening(alloc: Global, net: &Net) -> Result<NetworkCopy, AllocError>
-        requires { IsBare net.now }
-        ensures { IfOk result (λ c. c ≡ seen_in (opening terms net.now)) }
+        requires { IsBare net.now.network }
+        ensures { IfOk result (λ c. c ≡ seen_in (opening terms net.now.network)) }
     {
         let state = NodeState::new(alloc)?;
         let fresh = Vec::new(alloc);

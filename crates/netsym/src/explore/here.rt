@@ -23,7 +23,7 @@ pub struct Spot {
 
 /// The links of a node, in the file's order.
 pub fn links_of(alloc: Global, net: &Net, node: u32) -> Result<Vec<Link>, AllocError>
-    ensures { IfOk result (λ v. v.items ≡ links_of net.now node) }
+    ensures { IfOk result (λ v. v.items ≡ links_of net.now.network node) }
 {
     let mut links = Vec::new(alloc);
     for link in &net.links {

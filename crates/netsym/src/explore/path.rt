@@ -62,8 +62,8 @@ fn push(path: PathTaken, out: &mut Vec<PathTaken>) -> Result<(), AllocError>
 /// Appends a path. TooMany: there are then more than the network's limit of states.
 fn put(net: &Net, path: PathTaken, out: &mut Vec<PathTaken>) -> Result<(), EventStop>
     ensures ok { OnOk result (out.new.items ≡ out.old.items ++ (path ∷ [])) }
-    ensures few { OnOk result (length out.new.items ≤ net.now.limits.states) }
-    ensures many { IsErrOf result EventStop.TooMany → (out.new.items ≡ out.old.items ++ (path ∷ [])) × (net.now.limits.states < length out.new.items) }
+    ensures few { OnOk result (length out.new.items ≤ net.now.network.limits.states) }
+    ensures many { IsErrOf result EventStop.TooMany → (out.new.items ≡ out.old.items ++ (path ∷ [])) × (net.now.network.limits.states < length out.new.items) }
 {
     push(path, out)?;
     if out.len() > net.limits.states {
@@ -83,11 +83,11 @@ fn run(
     way: WaySoFar,
     out: &mut Vec<PathTaken>,
 ) -> Result<(), EventStop>
-    requires spot { IsIn net.now spot.now }
+    requires spot { IsIn net.now.network spot.now }
     requires lives { lives (live_of keep) way ≡ true }
-    ensures ok { OnOk result (out.new.items ≡ out.old.items ++ map (path_of terms) (filter (lives (live_of keep)) (ways terms (here_of net.now spot.now) fuel way))) }
-    ensures few { OnOk result (length out.old.items ≤ net.now.limits.states → length out.new.items ≤ net.now.limits.states) }
-    ensures many { IsErrOf result EventStop.TooMany → IsLongFront net.now.limits.states out.new.items (out.old.items ++ map (path_of terms) (filter (lives (live_of keep)) (ways terms (here_of net.now spot.now) fuel way))) }
+    ensures ok { OnOk result (out.new.items ≡ out.old.items ++ map (path_of terms) (filter (lives (live_of keep)) (ways terms (here_of net.now.network spot.now) fuel way))) }
+    ensures few { OnOk result (length out.old.items ≤ net.now.network.limits.states → length out.new.items ≤ net.now.network.limits.states) }
+    ensures many { IsErrOf result EventStop.TooMany → IsLongFront net.now.network.limits.states out.new.items (out.old.items ++ map (path_of terms) (filter (lives (live_of keep)) (ways terms (here_of net.now.network spot.now) fuel way))) }
 {
     let mut way = way;
     if !way.state().is_running() {
@@ -128,11 +128,11 @@ fn follow(
     way: WaySoFar,
     out: &mut Vec<PathTaken>,
 ) -> Result<(), EventStop>
-    requires spot { IsIn net.now spot.now }
+    requires spot { IsIn net.now.network spot.now }
     requires lives { lives (live_of keep) way ≡ true }
-    ensures ok { OnOk result (out.new.items ≡ out.old.items ++ map (path_of terms) (filter (lives (live_of keep)) (ways terms (here_of net.now spot.now) fuel (decided terms bit (literal_of decision) way)))) }
-    ensures few { OnOk result (length out.old.items ≤ net.now.limits.states → length out.new.items ≤ net.now.limits.states) }
-    ensures many { IsErrOf result EventStop.TooMany → IsLongFront net.now.limits.states out.new.items (out.old.items ++ map (path_of terms) (filter (lives (live_of keep)) (ways terms (here_of net.now spot.now) fuel (decided terms bit (literal_of decision) way)))) }
+    ensures ok { OnOk result (out.new.items ≡ out.old.items ++ map (path_of terms) (filter (lives (live_of keep)) (ways terms (here_of net.now.network spot.now) fuel (decided terms bit (literal_of decision) way)))) }
+    ensures few { OnOk result (length out.old.items ≤ net.now.network.limits.states → length out.new.items ≤ net.now.network.limits.states) }
+    ensures many { IsErrOf result EventStop.TooMany → IsLongFront net.now.network.limits.states out.new.items (out.old.items ++ map (path_of terms) (filter (lives (live_of keep)) (ways terms (here_of net.now.network spot.now) fuel (decided terms bit (literal_of decision) way)))) }
 {
     if !way.admits(keep, decision) {
         return Ok(());
@@ -152,12 +152,12 @@ fn handle(
     entry: Option<u16>,
     way: WaySoFar,
 ) -> Result<Vec<PathTaken>, EventStop>
-    requires spot { IsIn net.now spot.now }
-    requires some { 1 ≤ net.now.limits.states }
+    requires spot { IsIn net.now.network spot.now }
+    requires some { 1 ≤ net.now.network.limits.states }
     requires lives { lives (live_of keep) way ≡ true }
-    ensures ok { IfOk result (λ v. v.items ≡ map (path_of terms) (filter (lives (live_of keep)) (runs_from terms (here_of net.now spot.now) entry way))) }
-    ensures few { IfOk result (λ v. length v.items ≤ net.now.limits.states) }
-    ensures many { IsErrOf result EventStop.TooMany → net.now.limits.states < length (map (path_of terms) (filter (lives (live_of keep)) (runs_from terms (here_of net.now spot.now) entry way))) }
+    ensures ok { IfOk result (λ v. v.items ≡ map (path_of terms) (filter (lives (live_of keep)) (runs_from terms (here_of net.now.network spot.now) entry way))) }
+    ensures few { IfOk result (λ v. length v.items ≤ net.now.network.limits.states) }
+    ensures many { IsErrOf result EventStop.TooMany → net.now.network.limits.states < length (map (path_of terms) (filter (lives (live_of keep)) (runs_from terms (here_of net.now.network spot.now) entry way))) }
 {
     let mut out = Vec::new(alloc);
     let Some(entry) = entry else {
@@ -180,16 +180,16 @@ pub fn event_paths(
     event: Event,
     state: &NodeState,
 ) -> Result<Vec<PathTaken>, EventStop>
-    requires sound { IsNet net.now }
-    requires plain { HasPlainPrograms net.now }
-    requires node { node < length net.now.nodes }
-    requires early { tick < net.now.limits.ticks }
-    requires due { due net.now.limits.ticks tick state.now ≡ Some (event_of event) }
+    requires sound { IsNet net.now.network }
+    requires plain { HasPlainPrograms net.now.network }
+    requires node { node < length net.now.network.nodes }
+    requires early { tick < net.now.network.limits.ticks }
+    requires due { due net.now.network.limits.ticks tick state.now ≡ Some (event_of event) }
     requires low { handler_of event < 10 }
     requires lives { live_of keep state.now.own ≡ true }
-    ensures ok { IfOk result (λ v. v.items ≡ filter (path_lives (live_of keep)) (event_paths terms net.now node tick (event_of event) state.now)) }
-    ensures few { IfOk result (λ v. length v.items ≤ net.now.limits.states) }
-    ensures many { IsErrOf result EventStop.TooMany → net.now.limits.states < length (filter (path_lives (live_of keep)) (event_paths terms net.now node tick (event_of event) state.now)) }
+    ensures ok { IfOk result (λ v. v.items ≡ filter (path_lives (live_of keep)) (event_paths terms net.now.network node tick (event_of event) state.now)) }
+    ensures few { IfOk result (λ v. length v.items ≤ net.now.network.limits.states) }
+    ensures many { IsErrOf result EventStop.TooMany → net.now.network.limits.states < length (filter (path_lives (live_of keep)) (event_paths terms net.now.network node tick (event_of event) state.now)) }
 {
     net.bounds();
     let _bare = state.is_booted();

@@ -159,10 +159,10 @@ fn send(spot: &Spot, b: u8, n: u8, links: &[Link], way: WaySoFar) -> Result<Step
 
 /// The next instruction of a way, if it has not left the program.
 fn next_instr(net: &Net, spot: &Spot, way: &WaySoFar) -> Option<Instr>
-    requires { IsIn net.now spot.now }
-    ensures value { result ≡ slice_get (code_of net.now spot.now.node).instrs way.now.pc }
+    requires { IsIn net.now.network spot.now }
+    ensures value { result ≡ slice_get (code_of net.now.network spot.now.node).instrs way.now.pc }
     ensures fits { OnSome result (way.now.pc < 4096) }
-    ensures valid { IfSome result (IsInstr (length (code_of net.now spot.now.node).instrs)) }
+    ensures valid { IfSome result (IsInstr (length (code_of net.now.network spot.now.node).instrs)) }
     ensures plain { IfSome result IsPlainInstr }
 {
     program_of(net, spot.node).instr(way.pc())
@@ -170,8 +170,8 @@ fn next_instr(net: &Net, spot: &Spot, way: &WaySoFar) -> Option<Instr>
 
 /// What the next instruction of an event at a place does to a way; one that has left the program stops.
 pub fn step(net: &Net, spot: &Spot, way: WaySoFar) -> Result<Stepped, AllocError>
-    requires { IsIn net.now spot.now }
-    ensures { IfOk result (λ s. effect_seen s ≡ effect_at terms (here_of net.now spot.now) way) }
+    requires { IsIn net.now.network spot.now }
+    ensures { IfOk result (λ s. effect_seen s ≡ effect_at terms (here_of net.now.network spot.now) way) }
 {
     let Some(instr) = next_instr(net, spot, &way) else {
         return Ok(Stepped::Stops(way));

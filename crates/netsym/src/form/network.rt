@@ -6,14 +6,15 @@ ghost use Rattle.kn_code.specs.Code.{Code};
 ghost use Rattle.kn_plan.specs.Nets.{Network};
 ghost use Rattle.kn_plan.specs.Valid.{IsLink};
 ghost use Rattle.netsym.specs.Plans.{plan_with, network_with};
-ghost use Rattle.netsym.specs.Form.{IsProgramOf, EachOf, names_of, AreDifferent, IsPlaceOf, HasCounts, Describes};
-ghost use Rattle.netsym.specs.FormViews.{program_text, text_bytes, file_text, Finds};
+ghost use Rattle.netsym.specs.Form.{IsProgramOf, EachOf, names_of, AreDifferent, IsPlaceOf, HasCounts, Describes, DescribesAll};
+ghost use Rattle.netsym.specs.FormViews.{program_text, name_bytes, text_bytes, file_text, Finds};
 
 use crate::form::FormFault;
 use crate::form::program::program_of;
 use crate::form::text::{FileLines, ProgramLines};
 use kn_code::Program;
-use kn_plan::{Limits, Link, Net, NodePlan};
+use kn_plan::{Limits, Link, Name, Net, NodePlan};
+use kn_term::Valuation;
 use std::alloc::{AllocError, Global};
 
 /// The most ticks that a packet takes.
@@ -97,6 +98,19 @@ fn plans_of(alloc: Global, places: &[usize]) -> Result<Vec<NodePlan>, AllocError
     Ok(plans)
 }
 
+/// The name of each program.
+fn program_names(alloc: Global, programs: &[ProgramLines]) -> Result<Vec<Name>, AllocError>
+    ensures { IfOk result (λ v. v.items ≡ map name_bytes programs.now) }
+{
+    let mut names = Vec::new(alloc);
+    for program in programs {
+        names.push(Name {
+            bytes: Vec::from_slice(alloc, program.name)?,
+        })?;
+    }
+    Ok(names)
+}
+
 /// Whether a link joins two different nodes of so many, and takes 1 to 65,535 ticks.
 fn is_link(link: Link, nodes: usize) -> bool
     ensures { IsTrue result ↔ IsLink nodes link }
@@ -149,7 +163,7 @@ fn links_fit(links: &[Link], nodes: usize) -> bool
     are_links(links, nodes) && have_few(links, nodes)
 }
 
-/// The network of the texts, with these programs and these places of the nodes' programs.
+/// All that the texts give, with these programs and these places of the nodes' programs.
 fn net_with(
     alloc: Global,
     text: &FileLines,
@@ -158,10 +172,11 @@ fn net_with(
 ) -> Result<Net, AllocError>
     requires counts { HasCounts (file_text text.now) }
     requires describes { Describes (file_text text.now) (network_with text.now.ticks programs.items places.now text.now.links.items) }
-    ensures { IfOk result (λ net. Describes (file_text text.now) net) }
+    ensures { IfOk result (λ net. DescribesAll (file_text text.now) net) }
 {
     let nodes = plans_of(alloc, places)?;
     let links = Vec::from_slice(alloc, &text.links)?;
+    let names = program_names(alloc, &text.programs)?;
     let limits = Limits {
         ticks: text.ticks,
         fuel: 512,
@@ -174,13 +189,16 @@ fn net_with(
         nodes,
         links,
         limits,
+        names,
+        inputs: Valuation::new(alloc),
     })
 }
 
-/// The network that the texts describe. `NotForm`: they describe none. `Memory` is want of memory.
+/// The network that the texts describe, with the names of its programs and without inputs. `NotForm`: they describe none.
+/// `Memory` is want of memory.
 pub fn net_of(alloc: Global, text: &FileLines) -> Result<Net, FormFault>
     requires { HasCounts (file_text text.now) }
-    ensures { Finds result (λ net. Describes (file_text text.now) net) ((net : Network) → Describes (file_text text.now) net → ⊥) }
+    ensures { Finds result (λ net. DescribesAll (file_text text.now) net) ((net : Network) → Describes (file_text text.now) net → ⊥) }
 {
     if !are_different(&text.programs) {
         return Err(FormFault::NotForm);

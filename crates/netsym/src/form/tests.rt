@@ -76,6 +76,9 @@ fn programs_links_and_limits_are_read(rt: HostRuntime) -> Result<(), Fail> {
         let net = read_form(alloc, text.as_bytes())?;
         assert_eq!(rt; net.nodes.len(), 2);
         assert_eq!(rt; net.links.len(), 0);
+        assert_eq!(rt; net.names.len(), 1);
+        assert!(rt; net.names[0].bytes.as_slice() == b"half".as_slice());
+        assert!(rt; net.inputs.at(0).is_none());
         let program = program_of(&net, 1);
         assert!(rt; program.instr(0) == Some(Instr::Input { a: 0, w: 1 }));
         assert!(rt; program.instr(1) == Some(Instr::Brz { a: 0, to: 2 }));

@@ -140,8 +140,8 @@ fn put_failures(
 
 /// The report of kept scenarios of a network, in their order. It also says what their own conditions are on.
 pub fn report_from(alloc: Global, net: &Net, scenarios: &[Scenario]) -> Result<Report, AllocError>
-    requires { AreLong (length net.now.nodes) scenarios.now }
-    ensures report { IfOk result (λ r. r ≡ report_of net.now scenarios.now) }
+    requires { AreLong (length net.now.network.nodes) scenarios.now }
+    ensures report { IfOk result (λ r. r ≡ report_of net.now.network scenarios.now) }
     ensures plain { OnOk result (ArePlain scenarios.now) }
 {
     let nodes = node_count(net);

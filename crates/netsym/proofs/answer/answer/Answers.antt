@@ -4,13 +4,13 @@ use Rattle.netsym.proofs.Ends.{refused_answers}
 use Rattle.netsym.proofs.answer.answer.Goals as goal
 
 pub reported-requires-clause-sound : goal.reported-requires-clause-sound
-reported-requires-clause-sound c = file_is_net c.args.bytes.now c.in-Ok.net c.in-Ok.ensures.found
+reported-requires-clause-sound c = file_is_net c.args.bytes.now c.in-Ok.net.network c.in-Ok.ensures.found.form
 
 pub reported-requires-clause-bare : goal.reported-requires-clause-bare
-reported-requires-clause-bare c = file_is_bare c.args.bytes.now c.in-Ok.net c.in-Ok.ensures.found
+reported-requires-clause-bare c = file_is_bare c.args.bytes.now c.in-Ok.net.network c.in-Ok.ensures.found.form
 
 pub reported-requires-clause-plain : goal.reported-requires-clause-plain
-reported-requires-clause-plain c = file_is_plain c.args.bytes.now c.in-Ok.net c.in-Ok.ensures.found
+reported-requires-clause-plain c = file_is_plain c.args.bytes.now c.in-Ok.net.network c.in-Ok.ensures.found.form
 
 pub returns-in_ok-told-in-Err-NotForm : goal.returns-in_ok-told-in-Err-NotForm
 returns-in_ok-told-in-Err-NotForm c =

@@ -15,12 +15,12 @@ use Rattle.netsym.proofs.answer.report_of_net.Goals as goal
 
 pub report_from-requires : goal.report_from-requires
 report_from-requires c =
-    subst (AreLong (length c.args.net.now.nodes)) (sym c.deref.ensures.value)
-    (all_moved (λ (ss : List (State Term)). length ss ≡ length c.args.net.now.nodes) _ _ c.sort_by_name.ensures.same c.in_ok-scenarios.ensures.whole)
+    subst (AreLong (length c.args.net.now.network.nodes)) (sym c.deref.ensures.value)
+    (all_moved (λ (ss : List (State Term)). length ss ≡ length c.args.net.now.network.nodes) _ _ c.sort_by_name.ensures.same c.in_ok-scenarios.ensures.whole)
 
 pub returns-clause-given : goal.returns-clause-given
 returns-clause-given c =
-    let net = c.args.net.now in
+    let net = c.args.net.now.network in
     let list = c.sort_by_name.new.list.items in
     let listed : c.deref.result.now ≡ list = c.deref.ensures.value in
     let same = subst (λ xs. IsPermutation xs list) c.in_ok-scenarios.ensures.all c.sort_by_name.ensures.same in
@@ -31,7 +31,7 @@ returns-clause-given c =
 
 pub returns-clause-within : goal.returns-clause-within
 returns-clause-within c =
-    let net = c.args.net.now in
+    let net = c.args.net.now.network in
     let list = c.sort_by_name.new.list.items in
     let same : c.in_ok-report.report ≡ report_of net list = c.in_ok-report.ensures.report ∙ ap (report_of net) c.deref.ensures.value in
     let long : length (report_of net list).dstates ≡ length c.in_ok-scenarios.scenarios.items = report_long net list ∙ length_permutation c.in_ok-scenarios.scenarios.items list c.sort_by_name.ensures.same in
@@ -39,5 +39,5 @@ returns-clause-within c =
 
 pub returns-clause-decided : goal.returns-clause-decided
 returns-clause-decided c =
-    let same = c.in_ok-report.ensures.report ∙ ap (report_of c.args.net.now) c.deref.ensures.value in
-    subst (λ (r : Report). open_in r ≡ 0) (sym same) (none_open c.args.net.now c.sort_by_name.new.list.items)
+    let same = c.in_ok-report.ensures.report ∙ ap (report_of c.args.net.now.network) c.deref.ensures.value in
+    subst (λ (r : Report). open_in r ≡ 0) (sym same) (none_open c.args.net.now.network c.sort_by_name.new.list.items)

@@ -7,7 +7,7 @@ use Rattle.netsym.proofs.explore.branch.run_tick.Given as goal
 
 abbrev pub invariant-loop-node : goal.invariant-loop-node
 invariant-loop-node l = record {
-  made : l.list.items ≡ run_nodes (live_of l.keep) (written_of l.keep) l.net l.tick l.node l.fn.list.items;
-  few : length l.fn.list.items ≤ l.net.limits.dstates → length l.list.items ≤ l.net.limits.dstates;
-  kept : AreKept (live_of l.keep) l.net l.list.items;
+  made : l.list.items ≡ run_nodes (live_of l.keep) (written_of l.keep) l.net.network l.tick l.node l.fn.list.items;
+  few : length l.fn.list.items ≤ l.net.network.limits.dstates → length l.list.items ≤ l.net.network.limits.dstates;
+  kept : AreKept (live_of l.keep) l.net.network l.list.items;
 }

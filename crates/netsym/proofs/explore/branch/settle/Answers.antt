@@ -8,7 +8,7 @@ use Rattle.netsym.proofs.explore.branch.settle.Goals as goal
 pub loop-turn-preserved : goal.loop-turn-preserved
 loop-turn-preserved c =
     let live = live_of c.args.keep in
-    let net = c.args.net.now in
+    let net = c.args.net.now.network in
     let node = c.args.place.node in
     let tick = c.args.place.tick in
     let made : c.in_ok-list.list.items ≡ kept_turns live net node tick (c.loop-turn._turn + 1) c.args.copy =

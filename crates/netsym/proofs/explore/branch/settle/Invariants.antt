@@ -5,6 +5,6 @@ use Rattle.netsym.proofs.explore.branch.settle.Given as goal
 
 abbrev pub invariant-loop-turn : goal.invariant-loop-turn
 invariant-loop-turn l = record {
-  made : l.list.items ≡ kept_turns (live_of l.keep) l.net l.place.node l.place.tick l._turn l.fn.copy;
-  kept : AreKept (live_of l.keep) l.net l.list.items;
+  made : l.list.items ≡ kept_turns (live_of l.keep) l.net.network l.place.node l.place.tick l._turn l.fn.copy;
+  kept : AreKept (live_of l.keep) l.net.network l.list.items;
 }

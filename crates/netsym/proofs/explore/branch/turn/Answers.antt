@@ -11,7 +11,7 @@ pub returns-in_err-within_limit-clause-stop : goal.returns-in_err-within_limit-c
 returns-in_err-within_limit-clause-stop c =
     let live = live_of c.args.keep in
     let f = written_of c.args.keep in
-    let net = c.args.net.now in
+    let net = c.args.net.now.network in
     let node = c.args.place.node in
     let tick = c.args.place.tick in
     let all : c.args.list.items ≡ c.loop-copy.yielded ++ (c.in-Some.copy ∷ c.next.new.self.rest.items) = search rules in

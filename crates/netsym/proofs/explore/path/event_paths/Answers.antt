@@ -14,7 +14,7 @@ use Rattle.netsym.proofs.DueEvents.{spot_in, event_passing, starts_living}
 use Rattle.netsym.proofs.explore.path.event_paths.Goals as goal
 
 pub handle-requires-clause-spot : goal.handle-requires-clause-spot
-handle-requires-clause-spot c = spot_in c.args.net.now (record { node = c.args.node; tick = c.args.tick; links = c.in_ok-links.links; mail = c.begin-mail.result }) c.bounds.ensures c.requires.sound c.requires.plain c.requires.node c.requires.early c.in_ok-links.ensures
+handle-requires-clause-spot c = spot_in c.args.net.now.network (record { node = c.args.node; tick = c.args.tick; links = c.in_ok-links.links; mail = c.begin-mail.result }) c.bounds.ensures.network c.requires.sound c.requires.plain c.requires.node c.requires.early c.in_ok-links.ensures
 
 pub handle-requires-clause-lives : goal.handle-requires-clause-lives
 handle-requires-clause-lives c =
@@ -23,7 +23,7 @@ handle-requires-clause-lives c =
 -- the paths that pass, by where the handler begins
 pub returns-in_err-paths-clause-many : goal.returns-in_err-paths-clause-many
 returns-in_err-paths-clause-many c = λ many.
-    let net = c.args.net.now in
+    let net = c.args.net.now.network in
     let e = event_of c.args.event in
     let s = c.args.state.now in
     let live = live_of c.args.keep in
@@ -40,7 +40,7 @@ returns-in_err-paths-clause-many c = λ many.
 
 pub returns-clause-ok : goal.returns-clause-ok
 returns-clause-ok c =
-    let net = c.args.net.now in
+    let net = c.args.net.now.network in
     let e = event_of c.args.event in
     let s = c.args.state.now in
     let live = live_of c.args.keep in

@@ -12,7 +12,7 @@ put_lines-requires c =
 
 pub loop-dstate-preserved : goal.loop-dstate-preserved
 loop-dstate-preserved c =
-    let nodes = length c.args.net.now.nodes in
+    let nodes = length c.args.net.now.network.nodes in
     let scenario = c.index-scenarios-dstate.result in
     let long = long_at nodes c.args.scenarios.now c.loop-dstate.dstate scenario c.requires c.loop-dstate-test.true c.index-scenarios-dstate.is in
     let first : c.len-first.result ≡ length c.loop-dstate.states.items = c.len-first.ensures ∙ c.loop-dstate.states.ok.0 in

@@ -3,4 +3,4 @@ use Rattle.netsym.proofs.Making.{Listed}
 use Rattle.netsym.proofs.report.making.report_from.Given as goal
 
 abbrev pub invariant-loop-dstate : goal.invariant-loop-dstate
-invariant-loop-dstate l = Listed (length l.net.nodes) l.scenarios l.dstate l.states.items l.dstates.items l.failures.items
+invariant-loop-dstate l = Listed (length l.net.network.nodes) l.scenarios l.dstate l.states.items l.dstates.items l.failures.items
