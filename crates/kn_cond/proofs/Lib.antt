@@ -1,3 +1,3 @@
 -- The lemmas on conditions.
 pub mod Kept
-pub mod Equal
+pub mod Reading

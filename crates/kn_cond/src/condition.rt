@@ -2,7 +2,8 @@
 
 ghost use Rattle.std.specs.Prelude.{◌≡◌, ◌↔◌, ◌++◌, [], ◌∷◌, IfOk, OnOk, OnErr, IsTrue, length, ◌<◌};
 ghost use Rattle.std.specs.Cmp.Lexicographic.{pointwise};
-ghost use Rattle.kn_cond.specs.Conditions.{holds, is_as, literal_holds, StandIn};
+ghost use Rattle.kn_cond.specs.Conditions.{holds, literal_holds};
+ghost use Rattle.kn_cond.specs.Meanings.{condition_of, literal_of, StandIn};
 
 use kn_term::{Literal, Terms, Valuation};
 use std::alloc::{AllocError, Global};
@@ -63,7 +64,7 @@ impl Cond {
     /// want of memory.
     pub fn holds(&self, terms: &Terms, a: &Valuation) -> Result<bool, AllocError>
         requires { StandIn terms.now self.now }
-        ensures { IfOk result (λ b. b ≡ holds terms.now a.now self.now) }
+        ensures { IfOk result (λ b. b ≡ holds a.now (condition_of terms.now self.now)) }
     {
         all_hold(&self.literals, terms, a)
     }
@@ -98,7 +99,7 @@ impl PartialEq for Cond {
 /// Whether each literal holds.
 fn all_hold(literals: &[Literal], terms: &Terms, a: &Valuation) -> Result<bool, AllocError>
     requires { StandIn terms.now literals.now }
-    ensures { IfOk result (λ b. b ≡ holds terms.now a.now literals.now) }
+    ensures { IfOk result (λ b. b ≡ holds a.now (condition_of terms.now literals.now)) }
 {
     for literal in literals {
         if !literal_holds(*literal, terms, a)? {
@@ -111,7 +112,7 @@ fn all_hold(literals: &[Literal], terms: &Terms, a: &Valuation) -> Result<bool, 
 /// Whether one literal holds.
 fn literal_holds(literal: Literal, terms: &Terms, a: &Valuation) -> Result<bool, AllocError>
     requires { literal.term.index < length terms.now }
-    ensures { IfOk result (λ b. b ≡ literal_holds terms.now a.now literal) }
+    ensures { IfOk result (λ b. b ≡ literal_holds a.now (literal_of terms.now literal)) }
 {
     let word = terms.value(a, literal.term)?;
     Ok((word != 0) == literal.truth)

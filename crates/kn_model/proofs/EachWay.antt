@@ -5,7 +5,8 @@ use Rattle.std.specs.List.{AllByRecursion}
 use Rattle.kn_code.specs.declared.program.Instr.{Instr}
 use Rattle.kn_code.specs.declared.program.Instr.TheVariants as instrs
 use Rattle.kn_model.specs.Values.{Literal, Values, negated}
-use Rattle.kn_model.specs.Histories.{Event, Boot, Reboot, Mail, Timer}
+use Rattle.kn_packet.specs.declared.packet.Event.{Event}
+use Rattle.kn_packet.specs.declared.packet.Event.TheVariants.{Boot, Reboot, Packet as Mail, Timer}
 use Rattle.kn_model.specs.Packets.{Packet}
 use Rattle.kn_model.specs.Nodes.{Outcome, Halted, Failed, FailKind, Assert, Bounds, Fuel, is_running}
 use Rattle.kn_model.specs.Nets.{Link}

@@ -5,7 +5,8 @@ use Rattle.std.specs.List.{AllByRecursion}
 use Rattle.std.proofs.lemmas.List.{length-set}
 use Rattle.kn_model.specs.Values.{Literal, Values}
 use Rattle.kn_model.specs.Terms.{Term, Valuation, terms}
-use Rattle.kn_model.specs.Histories.{Event, Boot, Reboot, Mail, Timer}
+use Rattle.kn_packet.specs.declared.packet.Event.{Event}
+use Rattle.kn_packet.specs.declared.packet.Event.TheVariants.{Boot, Reboot, Packet as Mail, Timer}
 use Rattle.kn_model.specs.Packets.{Packet, Parcel, parcel_le}
 use Rattle.kn_model.specs.Nodes.{State, Node}
 use Rattle.kn_model.specs.Nets.{Network, Plan, opening_node, no_plan}

@@ -10,7 +10,7 @@ use Rattle.std.proofs.lemmas.Bool.{eqb-true, eqb-false, eq-eqb, ne_eqb, ltb-true
 use Rattle.kn_word.specs.Words.{one_if}
 use Rattle.kn_model.specs.Values.{Literal}
 use Rattle.kn_model.specs.Terms.{Term, Word, Input, Apply, Choice, Given, Valuation, listed, same_bit, word_holds}
-use Rattle.kn_model.specs.Conditions.{Condition, Read, holds, literal_holds, read_cmp, put_before, put_read, widest, reads_in, reads_of, that, AreWords, listing, valuation_of, IsLeast, IsPossible}
+use Rattle.kn_model.specs.Conditions.{Condition, Query, Read, holds, literal_holds, read_cmp, put_before, put_read, widest, reads_in, reads_of, that, AreWords, listing, valuation_of, IsLeast, IsPossible, IsLive}
 use Rattle.kn_model.specs.Deciding.{IsPlain, IsPlainTerm, is_false, is_false_on, opposes, opposes_on, some_opposes, clashes, put_one, forced_by, forced}
 use Rattle.kn_model.proofs.Clashing.{and_false, both, either, neither, on}
 
@@ -526,3 +526,7 @@ forced_is_least c p e =
 -- and so a plain condition is met by some inputs exactly where it does not clash
 pub possible_by : (c : Condition) → IsPlain c → clashes c ≡ false → IsPossible (that c)
 possible_by c p e = (forced c, forced_holds c p e)
+
+-- what some inputs meet is live
+pub live_by : (most : ℕ) (q : Query) (a : Valuation) → q.meets a ≡ true → IsLive most q
+live_by most q a h never small = let wrong : true ≡ false = sym h ∙ never a in cc

@@ -8,7 +8,7 @@ use Rattle.std.specs.Ordering.{ordering_then}
 use Rattle.std.specs.Cmp.Lexicographic.{slice_cmp}
 use Rattle.std.proofs.lemmas.List.{append-nil}
 use Rattle.kn_model.specs.Terms.{Term, terms}
-use Rattle.kn_model.specs.Histories.{Event}
+use Rattle.kn_packet.specs.declared.packet.Event.{Event}
 use Rattle.kn_model.specs.Nets.{Network}
 use Rattle.kn_model.specs.Due.{due, left}
 use Rattle.kn_model.specs.Paths.{Path, event_paths}

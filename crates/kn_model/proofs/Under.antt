@@ -12,7 +12,8 @@ use Rattle.kn_model.specs.Values.{Literal, Values, negated}
 use Rattle.kn_model.specs.Terms.{Term, Word, Apply, Valuation, ev, terms, words, word_holds, same_bit}
 use Rattle.kn_model.specs.Conditions.{holds, literal_in, literal_holds}
 use Rattle.kn_model.specs.Concrete.{packet_under, state_under}
-use Rattle.kn_model.specs.Histories.{Event, Boot, Reboot, Mail, Timer}
+use Rattle.kn_packet.specs.declared.packet.Event.{Event}
+use Rattle.kn_packet.specs.declared.packet.Event.TheVariants.{Boot, Reboot, Packet as Mail, Timer}
 use Rattle.kn_model.specs.Packets.{Packet, put_in, packet_le}
 use Rattle.kn_model.specs.Nodes.{zeros, Bounds, Fuel, is_running}
 use Rattle.kn_model.specs.Nets.{Link}

@@ -6,20 +6,23 @@ use Rattle.kn_code.specs.declared.program.Instr.{Instr}
 use Rattle.kn_code.specs.declared.program.Instr.TheVariants as instrs
 use Rattle.kn_code.specs.Code.{Code}
 use Rattle.kn_model.specs.Terms.{Term, Valuation, terms, words}
-use Rattle.kn_model.specs.Histories.{Event, History, followed}
+use Rattle.kn_model.specs.Histories.{History, followed}
+use Rattle.kn_packet.specs.declared.packet.Event.{Event}
 use Rattle.kn_model.specs.Packets.{Packet, Parcel, put_all, packet_le}
 use Rattle.kn_model.specs.Nodes.{State, Node}
 use Rattle.kn_model.specs.Nets.{Network, Link}
 use Rattle.kn_model.specs.Due.{due, held, left}
-use Rattle.kn_model.specs.Paths.{Path, event_paths}
+use Rattle.kn_model.specs.Paths.{Path, event_paths, paths}
+use Rattle.kn_model.specs.Limits.{IsPrefix}
 use Rattle.kn_model.specs.Scenarios.{Scenario, name_of, cob, copies, finish, receive, node_at, settled}
-use Rattle.kn_model.specs.Conditions.{Condition, holds, that, that_with, IsImpossible, IsLeast}
+use Rattle.kn_model.specs.Conditions.{Condition, holds, that, that_with, IsImpossible, IsLeast, IsSmall, IsFar, StandsFor, IsLive}
+use Rattle.kn_cond.specs.declared.standing.Standing.{Standing}
 use Rattle.kn_model.specs.Deciding.{IsPlain, clashes, forced}
 use Rattle.kn_model.specs.Concrete.{concrete, scenario_under, path_under, state_under}
 use Rattle.kn_model.specs.Reports.{Rises, trace_cmp, ends, pick_condition}
 use Rattle.kn_model.specs.Replays.{node_of, own_of}
-use Rattle.kn_model.specs.Alikes.{MetAt, seen}
-use Rattle.kn_model.specs.Picks.{SameItems}
+use Rattle.kn_model.specs.Alikes.{MetAt, seen, OneByOne, Alike, AlikePath, AlikeSend, AlikeRun, AlikeRunPath, ConditionAlike, AreGiven}
+use Rattle.kn_built.specs.Picks.{SameItems}
 
 -- a state with these packets in its queue
 abbrev pub queued_all : {V : Type 0} → List (Packet V) → State V → State V
@@ -187,3 +190,45 @@ JoinedIsOne = (c : Condition) (ds : List Condition) → that_with c (map (λ (d 
 abbrev pub OneAndOthers : Type 0
 OneAndOthers = (cs : List Condition) (n : ℕ) → n < length cs
     → that_with (slice_index_or cs n []) (map (λ (d : Condition). d ∷ []) (take n cs ++ drop (n + 1) cs)) ≡ that (flat_map (λ (d : Condition). d) cs)
+
+-- Alike states have the same events due, and an event's paths from them are alike, one by one in order.
+abbrev pub AlikePaths : Type 0
+AlikePaths = (net : Network) (n tick : ℕ) (s t : State Term) → Alike s t
+    → (due net.limits.ticks tick s ≡ due net.limits.ticks tick t) × (left net.limits.ticks tick s ≡ left net.limits.ticks tick t)
+    × ((e : Event) → OneByOne AlikePath (event_paths terms net n tick e s) (event_paths terms net n tick e t))
+
+-- the same of runs on inputs
+abbrev pub AlikeRuns : Type 0
+AlikeRuns = (net : Network) (a : Valuation) (n tick : ℕ) (s t : State ℕ) → AlikeRun s t
+    → (due net.limits.ticks tick s ≡ due net.limits.ticks tick t) × (left net.limits.ticks tick s ≡ left net.limits.ticks tick t)
+    × ((e : Event) → OneByOne AlikeRunPath (event_paths (words a) net n tick e s) (event_paths (words a) net n tick e t))
+
+-- A condition that is alike to another is small where the other is; what is far of it is far of the other, and its standing is one of the other's.
+abbrev pub AlikeStandings : Type 0
+AlikeStandings = (conflicts : ℕ) (c d : Condition) → ConditionAlike c d
+    → (IsSmall conflicts (that d) → IsSmall conflicts (that c)) × (IsFar conflicts (that c) → IsFar conflicts (that d))
+    × ((x : Standing) → StandsFor conflicts (that c) x → StandsFor conflicts (that d) x)
+
+-- What is given of an event of a state is given of the event of each state that it is alike to.
+abbrev pub GivenOfAlike : Type 0
+GivenOfAlike = (net : Network) (n tick : ℕ) (e : Event) (s t : State Term) (ps : List (Path Term)) → Alike s t
+    → AreGiven ps (event_paths terms net n tick e s) → AreGiven ps (event_paths terms net n tick e t)
+
+-- Alike states that are sent alike packets stay alike, with the packets in the queue and with a guard in the own condition.
+abbrev pub AlikeReceived : Type 0
+AlikeReceived = (s t : State Term) → Alike s t
+    → ((ps qs : List (Packet Term)) → OneByOne AlikeSend ps qs → Alike (queued_all ps s) (queued_all qs t))
+    × ((p q : Packet Term) → AlikeSend p q → Alike (record s { own = s.own ++ p.guard }) (record t { own = t.own ++ q.guard }))
+
+-- What given paths are: each is alike to one of the event's paths, their bits differ, and each path of the event is given or has an own condition that no inputs meet.
+abbrev pub GivenMeans : Type 0
+GivenMeans = (net : Network) (n tick : ℕ) (e : Event) (s : State Term) (ps : List (Path Term)) → IsNet net → AreGiven ps (event_paths terms net n tick e s)
+    → AllByRecursion (λ (p : Path Term). (q : Path Term) × Contains (event_paths terms net n tick e s) q × AlikePath p q) ps
+    × AreApart (map (λ (p : Path Term). p.bits) ps)
+    × AllByRecursion (λ (q : Path Term). ((p : Path Term) × Contains ps p × AlikePath p q) ⊎ IsImpossible (that q.state.own)) (event_paths terms net n tick e s)
+
+-- A live condition stays live in one that it is alike to, and a live prefix of a due event's path is one from each state that is alike.
+abbrev pub AlikePrefixes : Type 0
+AlikePrefixes = (net : Network) (n tick : ℕ) (s t : State Term) → Alike s t
+    → (IsLive net.limits.conflicts (that s.own) → IsLive net.limits.conflicts (that t.own))
+    × ((bits : List Bool) → IsPrefix net.limits.conflicts s (paths terms net n tick s) bits → IsPrefix net.limits.conflicts t (paths terms net n tick t) bits)

@@ -2,7 +2,9 @@
 use Rattle.std.specs.Prelude.{ℕ, zero, suc, ◌+◌, ◌-◌, ◌&&◌, not, nat_eq, Bool, true, false, List, [], ◌∷◌, ◌++◌, map, filter, Option, Some, None, slice_get, slice_index_or, slice_set}
 use Rattle.kn_code.specs.declared.program.Instr.{Instr}
 use Rattle.kn_model.specs.Values.{Literal, Values, negated}
-use Rattle.kn_model.specs.Histories.{Event, Boot, Reboot, Mail, Timer, Done, AndRan, followed}
+use Rattle.kn_model.specs.Histories.{Done, AndRan, followed}
+use Rattle.kn_packet.specs.declared.packet.Event.{Event}
+use Rattle.kn_packet.specs.declared.packet.Event.TheVariants.{Boot, Reboot, Packet as Mail, Timer}
 use Rattle.kn_model.specs.Packets.{Packet, Parcel, stamp_of, put_in, packet_le, first_at, without_first}
 use Rattle.kn_model.specs.Nodes.{State, Node, Fuel, is_running, zeros, unset}
 use Rattle.kn_model.specs.Nets.{Network, code_of, links_of}

@@ -1,4 +1,4 @@
--- Stamps, packets and events are equal exactly where `==` says so.
+-- Stamps and packets are equal exactly where `==` says so.
 use Rattle.std.proofs.Common.{◌≡◌, ℕ, List, Bool, true, refl, ap, sym, ◌∙◌}
 use Rattle.std.specs.Bool.{Decides, IsTrue}
 use Rattle.std.specs.Cmp.{booleans_Decides}
@@ -10,10 +10,7 @@ use Rattle.kn_term.specs.declared.node.Ref.{Ref}
 use Rattle.kn_term.specs.declared.node.Literal.{Literal}
 use Rattle.kn_term.proofs.Equal.{ref_decides, literal_decides, terms_decides}
 use Rattle.kn_packet.specs.declared.packet.Stamp.{Stamp}
-use Rattle.kn_packet.specs.declared.packet.Event.{Event}
-use Rattle.kn_packet.specs.declared.packet.Event.TheVariants as events
 use Rattle.kn_packet.specs.contracts.packet.StampPartialEq.TheImpl as stamp_eq
-use Rattle.kn_packet.specs.contracts.packet.EventPartialEq.TheImpl as event_eq
 use Rattle.kn_packet.specs.Packets.{PacketView}
 use Rattle.kn_packet.specs.Equality.{numbers_eq, contents_eq, packet_eq}
 
@@ -24,7 +21,7 @@ same_stamp s t e =
     ∙ (ap (λ (v : List Bool). record s { node = t.node; history = t.history; bits = v }) e.1.1.0
     ∙ ap (λ (v : ℕ). record s { node = t.node; history = t.history; bits = t.bits; seq = v }) e.1.1.1))
 
-pub stamp_decides : (s t : Stamp) → Decides (stamp_eq.eq-value.it s t) (s ≡ t)
+stamp_decides : (s t : Stamp) → Decides (stamp_eq.eq-value.it s t) (s ≡ t)
 stamp_decides s t =
     decides_same _ (same_stamp s t) (λ e. (ap (λ (x : Stamp). x.node) e, (ap (λ (x : Stamp). x.history) e, (ap (λ (x : Stamp). x.bits) e, ap (λ (x : Stamp). x.seq) e))))
     (decides_both _ _ (Decides-eqb s.node t.node) (decides_both _ _ (Decides-eqb s.history t.history)
@@ -56,35 +53,6 @@ pub packet_decides : (p q : PacketView) → Decides (packet_eq p q) (p ≡ q)
 packet_decides p q =
     decides_same _ (same_packet p q) (λ e. ((ap (λ (x : PacketView). x.from) e, (ap (λ (x : PacketView). x.seq) e, (ap (λ (x : PacketView). x.copy) e, (ap (λ (x : PacketView). x.to) e, ap (λ (x : PacketView). x.arrival) e)))), (ap (λ (x : PacketView). x.payload) e, (ap (λ (x : PacketView). x.guard) e, (ap (λ (x : PacketView). x.terms) e, ap (λ (x : PacketView). x.stamp) e)))))
     (decides_both _ _ (numbers_decide p q) (contents_decide p q))
-
-mail_is : (a b c x y z : ℕ) → events.Packet a b c ≡ events.Packet x y z → (a ≡ x) × ((b ≡ y) × (c ≡ z))
-mail_is a b c x y z e = (cc, (cc, cc))
-
-is_mail : (a b c x y z : ℕ) → (a ≡ x) × ((b ≡ y) × (c ≡ z)) → events.Packet a b c ≡ events.Packet x y z
-is_mail a b c x y z e = ap (λ (n : ℕ). events.Packet n b c) e.0 ∙ (ap (λ (n : ℕ). events.Packet x n c) e.1.0 ∙ ap (λ (n : ℕ). events.Packet x y n) e.1.1)
-
-timer_is : (a b : ℕ) → events.Timer a ≡ events.Timer b → a ≡ b
-timer_is a b e = cc
-
-pub event_decides : (d e : Event) → Decides (event_eq.eq-value.it d e) (d ≡ e)
-event_decides events.Boot events.Boot = (λ h. refl, λ h. refl)
-event_decides events.Boot events.Reboot = (λ h. absurd cc, λ h. absurd cc)
-event_decides events.Boot (events.Packet x y z) = (λ h. absurd cc, λ h. absurd cc)
-event_decides events.Boot (events.Timer n) = (λ h. absurd cc, λ h. absurd cc)
-event_decides events.Reboot events.Boot = (λ h. absurd cc, λ h. absurd cc)
-event_decides events.Reboot events.Reboot = (λ h. refl, λ h. refl)
-event_decides events.Reboot (events.Packet x y z) = (λ h. absurd cc, λ h. absurd cc)
-event_decides events.Reboot (events.Timer n) = (λ h. absurd cc, λ h. absurd cc)
-event_decides (events.Packet a b c) events.Boot = (λ h. absurd cc, λ h. absurd cc)
-event_decides (events.Packet a b c) events.Reboot = (λ h. absurd cc, λ h. absurd cc)
-event_decides (events.Packet a b c) (events.Packet x y z) =
-    decides_same _ (is_mail a b c x y z) (mail_is a b c x y z)
-    (decides_both _ _ (Decides-eqb a x) (decides_both _ _ (Decides-eqb b y) (Decides-eqb c z)))
-event_decides (events.Packet a b c) (events.Timer n) = (λ h. absurd cc, λ h. absurd cc)
-event_decides (events.Timer m) events.Boot = (λ h. absurd cc, λ h. absurd cc)
-event_decides (events.Timer m) events.Reboot = (λ h. absurd cc, λ h. absurd cc)
-event_decides (events.Timer m) (events.Packet x y z) = (λ h. absurd cc, λ h. absurd cc)
-event_decides (events.Timer m) (events.Timer n) = decides_same _ (λ e. ap (λ (k : ℕ). events.Timer k) e) (timer_is m n) (Decides-eqb m n)
 
 -- with equal numbers the contents decide
 pub same_contents : (p q : PacketView) (b : Bool) → b ≡ contents_eq p q → numbers_eq p q ≡ true → (IsTrue b → p ≡ q) × (p ≡ q → IsTrue b)

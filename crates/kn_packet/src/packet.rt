@@ -46,7 +46,8 @@ pub enum Event {
 }
 
 /// A packet: who sent it, the sender's sequence number, which copy it is, for whom, and the tick at which it arrives;
-/// its words and the condition under which it was sent, both over the packet's own terms; and its stamp.
+/// its words, at most 8, and the condition under which it was sent, all of which name terms of the packet's own list;
+/// and its stamp.
 #[derive(Debug, Drop)]
 pub struct Packet {
     pub from: u32,
@@ -61,11 +62,13 @@ pub struct Packet {
 }
 
 impl Model for Packet {
-    ghost use Rattle.kn_packet.specs.Packets.{PacketView};
+    ghost use Rattle.kn_packet.specs.Packets.{PacketView, IsPacket};
 
     ghost Value = { PacketView };
 
     ghost view = { λ p. record { from = p.from; seq = p.seq; copy = p.copy; to = p.to; arrival = p.arrival; payload = p.payload.items; guard = p.guard.items; terms = p.terms; stamp = p.stamp } };
+
+    ghost invariant = { λ p. IsPacket p.terms p.payload.items p.guard.items };
 }
 
 impl Packet {

@@ -136,7 +136,7 @@ fn place_at(packets: &[Packet], tick: u32) -> Option<usize>
 fn copy_all(alloc: Global, packets: &[Packet]) -> Result<Vec<Packet>, AllocError>
     ensures { IfOk result (λ v. v.items ≡ packets.now) }
 {
-    let mut copies = Vec::new(alloc);
+    let mut copies = Vec::with_capacity(alloc, packets.len())?;
     for packet in packets {
         copies.push(packet.copy()?)?;
     }

@@ -1,35 +1,41 @@
 //! Terms as a list of nodes, children before parents.
 
-ghost use Rattle.std.specs.Prelude.{◌≡◌, ◌↔◌, ℕ, ◌+◌, ◌<◌, ◌≤◌, ◌%◌, ◌^◌, List, [], length, map, IfOk, OnErr, IsTrue, Some, slice_get, vec_len};
+ghost use Rattle.std.specs.Prelude.{◌≡◌, ◌↔◌, ℕ, ◌+◌, ◌<◌, ◌≤◌, ◌%◌, ◌^◌, List, [], length, map, IfOk, OnErr, IsTrue, Some, slice_get, vec_len, take};
 ghost use Rattle.std.specs.Cmp.Lexicographic.{pointwise};
 ghost use Rattle.kn_built.specs.Built.{Extends};
 ghost use Rattle.kn_term.specs.Terms.{Word, Input, Apply, Choice, Term, ev, input_word, Valuation as Assignment, WordsByInputs};
-ghost use Rattle.kn_term.specs.Nodes.{term_at, term_of, terms_of, IsNodeAt, AreNodes, later, shifted};
+ghost use Rattle.kn_term.specs.Nodes.{term_at, term_of, terms_of, IsNodeAt, AreNodes};
 
+use crate::block::Block;
+use crate::blocks::{joined, kept_blocks, node_at, put, shared_blocks};
 use crate::node::{Node, Ref};
+use crate::reached::bring;
 use crate::valuation::Valuation;
 use kn_word::{Op, apply};
 use std::alloc::{AllocError, Global};
 use std::marker::Model;
+use std::sync::Arc;
 
 /// A list of nodes, children before parents, each of which is a term. Contracts see the list of nodes, and it is kept
-/// in the allocator that `new` was given.
+/// in the allocator that `new` was given. No node stands twice. Its frozen part is shared by its copies.
 #[derive(Debug, Drop)]
 pub struct Terms {
-    nodes: Vec<Node>,
-    len: usize,
+    blocks: Vec<Arc<Block, Global>>,
+    /// How many nodes the blocks have.
+    before: usize,
+    tail: Block,
 }
 
 impl Model for Terms {
-    ghost use Rattle.std.specs.Prelude.{◌≡◌, List, length};
+    ghost use Rattle.std.specs.Prelude.{◌++◌, List};
     ghost use Rattle.kn_term.specs.declared.node.Node.{Node};
-    ghost use Rattle.kn_term.specs.Nodes.{AreNodes};
+    ghost use Rattle.kn_term.specs.Blocks.{front, Stands};
 
     ghost Value = { List Node };
 
-    ghost view = { λ t. t.nodes.items };
+    ghost view = { λ t. front t.blocks.items ++ t.tail };
 
-    ghost invariant = { λ t. AreNodes t.nodes.items × (t.len ≡ length t.nodes.items) };
+    ghost invariant = { λ t. Stands (front t.blocks.items) t.tail t.before };
 }
 
 impl Terms {
@@ -38,8 +44,9 @@ impl Terms {
         ensures { result ≡ [] }
     {
         Terms {
-            nodes: Vec::new(alloc),
-            len: 0,
+            blocks: Vec::new(alloc),
+            before: 0,
+            tail: Block::new(alloc),
         }
     }
 
@@ -93,26 +100,33 @@ impl Terms {
         self.push(Node::Ite(c, x, y))
     }
 
-    /// The term that a Ref names in another list, as a term of this one: that list's nodes up to it come behind the nodes
-    /// of this list. Earlier Refs keep their terms. Err is want of memory, and leaves the list as it was.
+    /// The term that a Ref names in another list, as a term of this one: of that list's nodes, those that the Ref reaches
+    /// come behind the nodes of this list, where they do not stand yet. Earlier Refs keep their terms. Err is want of
+    /// memory, and leaves the list as it was.
     pub fn import(&mut self, other: &Terms, r: Ref) -> Result<Ref, AllocError>
         requires { r.index < length other.now }
         ensures term { IfOk result (λ s. term_at self.new s.index ≡ term_at other.now r.index) }
         ensures stands { IfOk result (λ s. s.index < length self.new) }
         ensures grows { Extends self.old self.new }
+        ensures known { (place : ℕ) → place < length self.old → term_at self.old place ≡ term_at other.now r.index → self.new ≡ self.old }
         ensures err { OnErr result (self.new ≡ self.old) }
     {
-        let base = self.len;
-        if r.index >= usize::MAX - base {
-            return Err(AllocError);
+        let alloc = *self.blocks.allocator();
+        let len = self.tail.len();
+        match bring(
+            self.blocks.as_slice(),
+            &mut self.tail,
+            self.before,
+            other,
+            r,
+            alloc,
+        ) {
+            Ok(index) => Ok(Ref { index }),
+            Err(e) => {
+                self.tail.cut(len);
+                Err(e)
+            }
         }
-        let first = &other.nodes.as_slice()[..=r.index];
-        let mut more = shifted_nodes(*self.nodes.allocator(), first, base)?;
-        self.nodes.append(&mut more)?;
-        self.len = base + r.index + 1;
-        Ok(Ref {
-            index: base + r.index,
-        })
     }
 
     /// The node that a Ref names. Its children, if it has any, stand before it.
@@ -122,7 +136,7 @@ impl Terms {
         ensures stands { IsNodeAt r.index result }
         ensures term { term_at self.now r.index ≡ term_of (terms_of self.now) result }
     {
-        self.nodes[r.index]
+        node_at(self.blocks.as_slice(), &self.tail, r.index)
     }
 
     /// The word that a term has under a valuation. Err is want of memory.
@@ -130,8 +144,7 @@ impl Terms {
         requires { r.index < length self.now }
         ensures { IfOk result (λ w. w ≡ ev a.now (term_at self.now r.index)) }
     {
-        let first = &self.nodes.as_slice()[..=r.index];
-        let values = values_of(*self.nodes.allocator(), first, a)?;
+        let values = values_of(*self.blocks.allocator(), self, r.index + 1, a)?;
         Ok(values[r.index])
     }
 
@@ -139,37 +152,68 @@ impl Terms {
     /// each term has a word under each valuation, for a caller that needs it in a proof.
     pub fn order(&self)
         ensures order { AreNodes self.now }
+        ensures once { (i j : ℕ) → i < length self.now → j < length self.now → term_at self.now i ≡ term_at self.now j → i ≡ j }
         ensures few { length self.now < 2 ^ 64 }
         ensures words { (a : Assignment) (place : ℕ) → place < length self.now → ev a (term_at self.now place) < 2 ^ 16 }
     {
-        let _ = &self.nodes;
-        let _count = self.len;
+        let _ = &self.tail;
+        let _count = self.before;
     }
 
-    /// The same list of nodes. Err is want of memory.
+    /// The same list of nodes. Err is want of memory. What is frozen is shared, and takes no time.
     pub fn copy(&self) -> Result<Terms, AllocError>
         ensures { IfOk result (λ t. t ≡ self.now) }
     {
+        let alloc = *self.blocks.allocator();
+        let blocks = shared_blocks(alloc, self.blocks.as_slice())?;
+        let mut tail = Block::new(alloc);
+        tail.append(&self.tail)?;
         Ok(Terms {
-            nodes: Vec::from_slice(*self.nodes.allocator(), self.nodes.as_slice())?,
-            len: self.len,
+            blocks,
+            before: self.before,
+            tail,
         })
     }
 
-    /// One more node. Where there is no number for its place, that is want of memory.
+    /// The same list, all of which is shared by later copies. Err is want of memory, and leaves the list as it was.
+    pub fn freeze(&mut self) -> Result<(), AllocError>
+        ensures { self.new ≡ self.old }
+    {
+        let more = self.tail.len();
+        if more == 0 {
+            return Ok(());
+        }
+        let alloc = *self.blocks.allocator();
+        self.blocks.reserve(1)?;
+        let keep = kept_blocks(self.blocks.as_slice(), more);
+        let whole = joined(alloc, &self.blocks.as_slice()[keep..], &self.tail)?;
+        let block = Arc::new(alloc, whole)?;
+        self.blocks.truncate(keep);
+        self.blocks.push_reserved(block);
+        self.before += more;
+        self.tail = Block::new(alloc);
+        Ok(())
+    }
+
+    /// How many nodes there are.
+    fn len(&self) -> usize
+        ensures { result ≡ length self.now }
+    {
+        self.before + self.tail.len()
+    }
+
+    /// The node, which is one more where it does not stand yet. Where there is no number for its place, that is want of
+    /// memory.
     fn push(&mut self, node: Node) -> Result<Ref, AllocError>
         requires { IsNodeAt (length self.old) node }
         ensures term { IfOk result (λ r. term_at self.new r.index ≡ term_of (terms_of self.old) node) }
         ensures stands { IfOk result (λ r. r.index < length self.new) }
         ensures grows { Extends self.old self.new }
+        ensures node { IfOk result (λ r. slice_get self.new r.index ≡ Some node) }
+        ensures known { (place : ℕ) → slice_get self.old place ≡ Some node → self.new ≡ self.old }
         ensures err { OnErr result (self.new ≡ self.old) }
     {
-        let index = self.len;
-        if index == usize::MAX {
-            return Err(AllocError);
-        }
-        self.nodes.push(node)?;
-        self.len = index + 1;
+        let index = put(self.blocks.as_slice(), &mut self.tail, self.before, node)?;
         Ok(Ref { index })
     }
 }
@@ -187,7 +231,17 @@ impl PartialEq for Terms {
         ensures eq { result ≡ pointwise ⟦<Node as PartialEq>⟧.eq self.now other.now }
         ensures same { IsTrue result ↔ (self.now ≡ other.now) }
     {
-        self.nodes == other.nodes
+        let len = self.len();
+        if len != other.len() {
+            return false;
+        }
+        for index in 0..len {
+            let r = Ref { index };
+            if self.node(r) != other.node(r) {
+                return false;
+            }
+        }
+        true
     }
 }
 
@@ -196,15 +250,21 @@ pub fn words_by_inputs()
     ensures { WordsByInputs }
 {}
 
-/// The words of all terms of a list.
-fn values_of(alloc: Global, nodes: &[Node], a: &Valuation) -> Result<Vec<u16>, AllocError>
-    requires { AreNodes nodes.now }
-    ensures values { IfOk result (λ v. v.items ≡ map (ev a.now) (terms_of nodes.now)) }
-    ensures count { IfOk result (λ v. vec_len v ≡ length nodes.now) }
+/// The words of the first terms of a list, so many.
+fn values_of(
+    alloc: Global,
+    terms: &Terms,
+    count: usize,
+    a: &Valuation,
+) -> Result<Vec<u16>, AllocError>
+    requires { count ≤ length terms.now }
+    ensures values { IfOk result (λ v. v.items ≡ map (ev a.now) (terms_of (take count terms.now))) }
+    ensures count { IfOk result (λ v. vec_len v ≡ count) }
 {
     let mut values = Vec::new(alloc);
-    for node in nodes {
-        let value = value_of(values.as_slice(), a, *node);
+    for place in 0..count {
+        let node = terms.node(Ref { index: place });
+        let value = value_of(values.as_slice(), a, node);
         values.push(value)?;
     }
     Ok(values)
@@ -235,42 +295,4 @@ fn cut(word: u16, width: u32) -> u16
     ensures { result ≡ word % 2 ^ width }
 {
     (u32::from(word) % (1 << width)) as u16
-}
-
-/// These nodes, behind so many others.
-fn shifted_nodes(alloc: Global, nodes: &[Node], by: usize) -> Result<Vec<Node>, AllocError>
-    requires stand { AreNodes nodes.now }
-    requires room { by + length nodes.now < 2 ^ 64 }
-    ensures nodes { IfOk result (λ v. v.items ≡ map (shifted by) nodes.now) }
-{
-    let mut more = Vec::new(alloc);
-    for node in nodes {
-        let node = shifted_node(*node, by, more.len());
-        more.push(node)?;
-    }
-    Ok(more)
-}
-
-/// A node that stood at a place, behind so many others.
-fn shifted_node(node: Node, by: usize, place: usize) -> Node
-    requires stands { IsNodeAt place node }
-    requires room { by + place < 2 ^ 64 }
-    ensures { result ≡ shifted by node }
-{
-    match node {
-        Node::Konst(word) => Node::Konst(word),
-        Node::Input { node, index, width } => Node::Input { node, index, width },
-        Node::Apply(op, x, y) => Node::Apply(op, later(x, by), later(y, by)),
-        Node::Ite(c, x, y) => Node::Ite(later(c, by), later(x, by), later(y, by)),
-    }
-}
-
-/// What names the same node behind so many others.
-fn later(r: Ref, by: usize) -> Ref
-    requires { by + r.index < 2 ^ 64 }
-    ensures { result ≡ later by r }
-{
-    Ref {
-        index: by + r.index,
-    }
 }

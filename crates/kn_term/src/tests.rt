@@ -1,5 +1,7 @@
 //! Each call on a few terms and inputs.
 
+ghost use Rattle.std.specs.Prelude.{◌<◌, ◌≤◌, IfOk, length};
+
 use super::*;
 use kn_word::Op;
 use std::alloc::Global;
@@ -7,30 +9,28 @@ use std::test::Fail;
 
 fn is_shared<T: Send + Sync>() {}
 
-#[tactic(auto, using(crate::proofs::Kept::kept))]
+/// The word of an input of node 2 where input 7 of it is 0x1234.
+fn word_of_an_input(alloc: Global, index: u32, width: u32) -> Result<u16, Memory>
+    requires least { 1 ≤ width }
+    requires most { width ≤ 16 }
+{
+    let mut inputs = Valuation::new(alloc);
+    inputs.set(2, 7, 0x1234)?;
+    let mut terms = Terms::new(alloc);
+    let input = terms.input(2, index, width)?;
+    terms.value(&inputs, input)
+}
+
 #[test]
 fn gives_terms_their_words(rt: HostRuntime) -> Result<(), Fail> {
-    let mut inputs = Valuation::new(rt.alloc());
-    inputs.set(2, 7, 0x1234)?;
+    assert_eq!(rt; word_of_an_input(rt.alloc(), 7, 16)?, 0x1234);
+    assert_eq!(rt; word_of_an_input(rt.alloc(), 7, 4)?, 4);
+    assert_eq!(rt; word_of_an_input(rt.alloc(), 8, 16)?, 0);
     let mut terms = Terms::new(rt.alloc());
     let word = terms.konst(500)?;
-    let whole = terms.input(2, 7, 16)?;
-    let low = terms.input(2, 7, 4)?;
-    let other = terms.input(2, 8, 16)?;
+    let inputs = Valuation::new(rt.alloc());
     assert_eq!(rt; terms.value(&inputs, word)?, 500);
-    assert_eq!(rt; terms.value(&inputs, whole)?, 0x1234);
-    assert_eq!(rt; terms.value(&inputs, low)?, 4);
-    assert_eq!(rt; terms.value(&inputs, other)?, 0);
-    let same = Node::Input {
-        node: 2,
-        index: 7,
-        width: 4,
-    };
-    assert!(rt; terms.node(low) == same);
-    let copy = terms.copy()?;
-    assert!(rt; copy == terms);
-    terms.konst(1)?;
-    assert!(rt; copy != terms);
+    assert!(rt; terms.node(word) == Node::Konst(500));
     Ok(())
 }
 
@@ -96,23 +96,65 @@ fn chooses_by_whether_a_term_is_zero(rt: HostRuntime) -> Result<(), Fail> {
     Ok(())
 }
 
+/// Puts the sum of an input of 8 bits and 1 into a list: three nodes, the sum last.
 #[tactic(auto, using(crate::proofs::Kept::kept))]
+fn put_sum(terms: &mut Terms) -> Result<Ref, Memory>
+    ensures { IfOk result (λ r. r.index < length terms.new) }
+{
+    let x = terms.input(0, 0, 8)?;
+    let one = terms.konst(1)?;
+    terms.apply(Op::Add, x, one)
+}
+
+/// The word of a sum that came from another list, and stands behind a word there.
+#[tactic(auto, using(crate::proofs::Kept::kept))]
+fn word_of_an_import(alloc: Global, inputs: &Valuation) -> Result<u16, Memory> {
+    let mut other = Terms::new(alloc);
+    other.konst(7)?;
+    let sum = put_sum(&mut other)?;
+    let mut terms = Terms::new(alloc);
+    let brought = terms.import(&other, sum)?;
+    terms.import(&other, Ref { index: 0 })?;
+    terms.value(inputs, brought)
+}
+
 #[test]
 fn imports_a_term_of_another_list(rt: HostRuntime) -> Result<(), Fail> {
     let mut inputs = Valuation::new(rt.alloc());
     inputs.set(0, 0, 255)?;
-    let mut other = Terms::new(rt.alloc());
-    let x = other.input(0, 0, 8)?;
-    let one = other.konst(1)?;
-    let sum = other.apply(Op::Add, x, one)?;
+    assert_eq!(rt; word_of_an_import(rt.alloc(), &inputs)?, 256);
+    Ok(())
+}
+
+#[test]
+fn leaves_what_was_copied_as_it_was(rt: HostRuntime) -> Result<(), Fail> {
     let mut terms = Terms::new(rt.alloc());
-    let first = terms.import(&other, sum)?;
-    assert_eq!(rt; terms.value(&inputs, first)?, 256);
-    let second = terms.import(&other, sum)?;
-    assert_eq!(rt; terms.value(&inputs, second)?, 256);
-    assert_eq!(rt; terms.value(&inputs, first)?, 256);
-    let copy = terms.copy()?;
-    assert_eq!(rt; copy.value(&inputs, first)?, 256);
+    let mut alike = Terms::new(rt.alloc());
+    put_sum(&mut terms)?;
+    put_sum(&mut alike)?;
+    terms.freeze()?;
+    let mut copy = terms.copy()?;
+    assert!(rt; copy == terms);
+    assert_eq!(rt; copy.konst(2)?.index, 3);
+    assert!(rt; copy != terms);
+    assert!(rt; terms == alike);
+    Ok(())
+}
+
+#[test]
+fn finds_equal_nodes_again(rt: HostRuntime) -> Result<(), Fail> {
+    let mut terms = Terms::new(rt.alloc());
+    let sum = put_sum(&mut terms)?;
+    terms.freeze()?;
+    assert_eq!(rt; put_sum(&mut terms)?, sum);
+    assert_eq!(rt; terms.konst(2)?.index, 3);
+    assert_eq!(rt; terms.konst(2)?.index, 3);
+    let mut other = Terms::new(rt.alloc());
+    other.konst(5)?;
+    let other_sum = put_sum(&mut other)?;
+    let before = terms.copy()?;
+    assert_eq!(rt; terms.import(&other, other_sum)?, sum);
+    assert!(rt; terms == before);
     Ok(())
 }
 

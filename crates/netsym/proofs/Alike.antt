@@ -3,7 +3,8 @@ use Rattle.std.proofs.Common.{◌≡◌, ℕ, ◌+◌, cond, List, [], ◌∷◌
 use Rattle.std.proofs.lemmas.List.{append-nil, map-id}
 use Rattle.kn_word.specs.Words.{one_if}
 use Rattle.kn_model.specs.Terms.{Term, terms}
-use Rattle.kn_model.specs.Histories.{Event, Boot, Reboot}
+use Rattle.kn_packet.specs.declared.packet.Event.{Event}
+use Rattle.kn_packet.specs.declared.packet.Event.TheVariants.{Boot, Reboot}
 use Rattle.kn_model.specs.Packets.{Packet, first_at}
 use Rattle.kn_model.specs.Nodes.{State}
 use Rattle.kn_model.specs.Nets.{Network}

@@ -9,9 +9,8 @@ use Rattle.kn_model.specs.Scenarios.{Scenario, turns, settled_from, cob}
 use Rattle.kn_model.specs.Alikes.{MetAt}
 use Rattle.kn_model.specs.Conditions.{Condition}
 use Rattle.kn_model.specs.Laws.{IsNet}
-use Rattle.kn_model.proofs.Lists.{all-map, all-filter, all-flat, all-weaker}
+use Rattle.kn_model.proofs.Lists.{all-map, all-filter, all-flat, all-weaker, itself, of_map}
 use Rattle.kn_model.proofs.Implied.{all-contains}
-use Rattle.kn_model.proofs.OverLimits.{itself, of_map}
 use Rattle.netsym.specs.Keeping.{Seen, seen_of, seen_in, all_live, kept_turns, kept_before, IsKept, Falls}
 use Rattle.netsym.specs.Holding.{tidied, run_nodes, held_at}
 use Rattle.netsym.specs.Limiting.{copies_before, IsMetCopy}

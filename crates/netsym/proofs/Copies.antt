@@ -3,7 +3,8 @@ use Rattle.std.proofs.Common.{◌≡◌, ℕ, zero, suc, ◌+◌, ◌<◌, Bool,
 use Rattle.std.specs.Prelude.{◌&&◌, flat_map, nat_lt, Some, None}
 use Rattle.std.proofs.lemmas.Bool.{false≢true, ltb-true}
 use Rattle.std.proofs.lemmas.List.{length-map}
-use Rattle.kn_model.specs.Histories.{Event, Boot, Reboot}
+use Rattle.kn_packet.specs.declared.packet.Event.{Event}
+use Rattle.kn_packet.specs.declared.packet.Event.TheVariants.{Boot, Reboot}
 use Rattle.kn_model.specs.Terms.{Term}
 use Rattle.kn_model.specs.Packets.{first_at}
 use Rattle.kn_model.specs.Nodes.{State, is_running}

@@ -11,13 +11,12 @@ use Rattle.kn_model.specs.Conditions.{Condition, that, IsLive, AreDistinct}
 use Rattle.kn_model.specs.Deciding.{IsPlain, clashes}
 use Rattle.kn_model.specs.Laws.{IsNet, Apart, NamesApart, AllNamesApart}
 use Rattle.kn_model.specs.Limits.{AllLive, TooManyCopies}
-use Rattle.kn_model.proofs.Lists.{all-filter, all-weaker}
+use Rattle.kn_model.proofs.Lists.{all-filter, all-weaker, itself}
 use Rattle.kn_model.proofs.Clashing.{both, not_true}
 use Rattle.kn_model.proofs.Coverage.{filter_map_same}
 use Rattle.kn_model.proofs.Implied.{all-contains}
-use Rattle.kn_model.proofs.LeastInputs.{possible_by}
+use Rattle.kn_model.proofs.LeastInputs.{possible_by, live_by}
 use Rattle.kn_model.proofs.Naming.{Name, distinct_names, close_names}
-use Rattle.kn_model.proofs.OverLimits.{itself, live_by}
 use Rattle.netsym.specs.Keeping.{seen_of, seen_in, all_live, kept_before}
 use Rattle.netsym.specs.Holding.{run_nodes, held_at, tidied}
 use Rattle.netsym.specs.Limiting.{copies_before, HasManyCopies, InTurns, InNodes}

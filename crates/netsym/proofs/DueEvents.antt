@@ -4,7 +4,7 @@ use Rattle.std.specs.Prelude.{filter, nat_eq, not, ◌&&◌}
 use Rattle.std.specs.List.{AllByRecursion}
 use Rattle.std.proofs.lemmas.List.{append-nil}
 use Rattle.kn_word.specs.Words.{one_if}
-use Rattle.kn_model.specs.Histories.{Boot, Mail, Timer}
+use Rattle.kn_packet.specs.declared.packet.Event.TheVariants.{Boot, Packet as Mail, Timer}
 use Rattle.kn_model.specs.Terms.{Term, terms}
 use Rattle.kn_model.specs.Packets.{Packet, first_at}
 use Rattle.kn_model.specs.Nodes.{State}

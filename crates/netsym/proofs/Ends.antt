@@ -40,7 +40,7 @@ told_answers : (bytes : List ℕ) (net : Network) (status : Status) (text : List
 told_answers bytes net status text form told = subst (λ (s : Status). Answers bytes s text) (sym told.status_is) (go (nat_eq (reached_in told.report) 0) refl)
   where
     on : IsReportOn bytes text told.report
-    on = record { net = net; form = form; given = told.given; mapping = told.mapping; within = told.within; text_is = told.text_is }
+    on = record { net = net; form = form; given = told.given; mapping = told.mapping; within = told.within; decided = told.decided; text_is = told.text_is }
 
     some : (n : ℕ) → nat_eq n 0 ≡ false → 1 ≤ n
     some n e = elim (n) as (λ (m : ℕ). nat_eq m 0 ≡ false → 1 ≤ m) [ zero ↦ λ h. absurd cc | suc m ↦ λ h. omega arith ] e

@@ -13,13 +13,14 @@ use Rattle.kn_model.specs.Terms.{Term, Valuation}
 use Rattle.kn_model.specs.Nodes.{State, Node, Outcome, Running, Halted, Failed}
 use Rattle.kn_model.specs.Nets.{Network}
 use Rattle.kn_model.specs.Scenarios.{Scenario, name_of}
-use Rattle.kn_model.specs.Conditions.{Condition, Query, that, that_with, holds, literal_holds, IsLeast, IsImpossible, AreDistinct, StandsFor, Inputs}
+use Rattle.kn_model.specs.Conditions.{Condition, Query, that, that_with, holds, literal_holds, IsLeast, IsImpossible, AreDistinct, StandsFor}
+use Rattle.kn_cond.specs.declared.standing.Standing.TheVariants.{Inputs}
 use Rattle.kn_model.specs.Concrete.{node_under, scenario_under}
 use Rattle.kn_model.specs.Deciding.{IsPlain, clashes, forced, joined}
 use Rattle.kn_model.specs.Reports.{Report, StateLine, FailureLine, Reach, At, Nowhere, Names, all_picks, pick_name, trace_cmp, Gives, Shows, IsFailure, IsFailedState, Rises, own_at, OwnsOf, AllOwnsOf, IsQuery, pick_condition, RunShows, IsReached, ReachIs, singles}
 use Rattle.netsym.specs.Shown.{states_of}
 use Rattle.std.specs.Cmp.Lexicographic.{slice_cmp}
-use Rattle.kn_model.specs.Picks.{picks}
+use Rattle.kn_built.specs.Picks.{picks}
 use Rattle.netsym.specs.Listing.{dstates_from, line_of, numbers, reach_of, failure_of, failures_in, failures_from}
 use Rattle.netsym.proofs.Numbered.{some_one, none_some, get_behind, get_map, map_get, get_less, get_some, contained_at, all_at, all_mapped, first_of, singles_at, one_of, all_contained, AreLong, at_numbers, at_singles, only, contains_at}
 use Rattle.netsym.proofs.Given.{IsListing, lists, state, Kept, kept_at, kept_of, is_member, pick_is, is_pick, all_names, rows_run, long_lists, names_kept, shows_kept, Found, found, line_is, same_place, same_node, node_found, node_in, line_at, N, r}

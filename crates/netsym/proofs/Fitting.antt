@@ -6,7 +6,7 @@ use Rattle.std.proofs.lemmas.List.{map-append, append_assoc}
 use Rattle.std.proofs.lemmas.List.Elements.{filter-append}
 use Rattle.kn_model.specs.Values.{negated}
 use Rattle.kn_model.specs.Terms.{Term, terms}
-use Rattle.kn_model.specs.Histories.{Boot}
+use Rattle.kn_packet.specs.declared.packet.Event.TheVariants.{Boot}
 use Rattle.kn_model.specs.Nets.{Network, Link}
 use Rattle.kn_model.specs.Nodes.{Fuel, is_running, state_of}
 use Rattle.kn_model.specs.Rows.{Here, Way, Effect}

@@ -14,7 +14,7 @@ use Rattle.kn_model.specs.Conditions.{holds}
 use Rattle.kn_model.specs.Concrete.{concrete, scenario_under}
 use Rattle.kn_model.specs.Deciding.{IsPlain, clashes}
 use Rattle.kn_model.specs.Cores.{HasImpossible}
-use Rattle.kn_model.specs.Picks.{picks}
+use Rattle.kn_built.specs.Picks.{picks}
 use Rattle.kn_model.specs.Reports.{Report, StateLine, ends, IsLine, Shows, Names, IsPick, all_picks, trace_at, pick_name, NodeIn, Rises, trace_cmp, AreRuns, pick_condition, singles}
 use Rattle.netsym.specs.Shown.{states_of}
 use Rattle.netsym.specs.Listing.{line_of, numbers, dstates_from, report_of}

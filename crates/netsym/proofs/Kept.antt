@@ -5,7 +5,7 @@ use Rattle.std.specs.List.{AllByRecursion}
 use Rattle.std.proofs.lemmas.List.{map-append, append-nil, length-map}
 use Rattle.std.proofs.lemmas.List.Elements.{filter-append}
 use Rattle.kn_model.specs.Terms.{Term, terms}
-use Rattle.kn_model.specs.Histories.{Event}
+use Rattle.kn_packet.specs.declared.packet.Event.{Event}
 use Rattle.kn_model.specs.Nodes.{State}
 use Rattle.kn_model.specs.Nets.{Network}
 use Rattle.kn_model.specs.Due.{due, left}

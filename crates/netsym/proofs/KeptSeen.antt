@@ -2,7 +2,8 @@
 use Rattle.std.proofs.Common.{◌≡◌, ℕ, ◌+◌, List, [], ◌∷◌, map, set, refl, sym, ap, ◌∙◌}
 use Rattle.std.specs.Prelude.{nat_eq, filter}
 use Rattle.kn_model.specs.Terms.{Term, terms}
-use Rattle.kn_model.specs.Histories.{History, Event}
+use Rattle.kn_model.specs.Histories.{History}
+use Rattle.kn_packet.specs.declared.packet.Event.{Event}
 use Rattle.kn_model.specs.Packets.{Packet, Parcel, put_all, packet_le, parcel_le}
 use Rattle.kn_model.specs.Nodes.{State, Node}
 use Rattle.kn_model.specs.Nets.{opening_node, no_plan}

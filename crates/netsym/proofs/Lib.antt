@@ -5,7 +5,6 @@ pub mod PlainPrograms
 pub mod PlainWays
 pub mod Plainness
 pub mod Steps
-pub mod Queues
 pub mod KeptSeen
 pub mod KeptLive
 pub mod KeptWhole
@@ -42,6 +41,7 @@ pub mod HeldGiven
 pub mod Placing
 pub mod Printed
 pub mod Making
+pub mod Decided
 pub mod FormNet
 pub mod Words
 pub mod Ends

@@ -5,7 +5,7 @@ use Rattle.std.specs.List.{AllByRecursion}
 use Rattle.std.proofs.lemmas.List.{length-append, length-set}
 use Rattle.kn_word.specs.Words.{one_if}
 use Rattle.kn_model.specs.Terms.{Term, terms}
-use Rattle.kn_model.specs.Histories.{Event}
+use Rattle.kn_packet.specs.declared.packet.Event.{Event}
 use Rattle.kn_model.specs.Packets.{Packet, put_all, put_in, packet_le}
 use Rattle.kn_model.specs.Nets.{Network, opening_node, no_plan}
 use Rattle.kn_model.specs.Due.{due, left, how_many, is_open, is_set_to, boot_due, has, comes_at}

@@ -7,7 +7,7 @@ use Rattle.std.proofs.lemmas.List.{append-nil, length-append}
 use Rattle.std.proofs.lemmas.List.Concat.{flat_map-cons}
 use Rattle.kn_model.specs.Terms.{Term}
 use Rattle.kn_model.specs.Nodes.{State}
-use Rattle.kn_model.specs.Picks.{picks}
+use Rattle.kn_built.specs.Picks.{picks}
 use Rattle.kn_model.specs.Reports.{StateLine, singles}
 use Rattle.netsym.specs.Listing.{line_of, lines_from, numbers, dstates_from}
 

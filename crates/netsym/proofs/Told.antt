@@ -4,7 +4,8 @@ use Rattle.std.specs.Prelude.{not}
 use Rattle.kn_model.specs.Terms.{Term, Valuation}
 use Rattle.kn_model.specs.Nodes.{State}
 use Rattle.kn_model.specs.Nets.{Network}
-use Rattle.kn_model.specs.Conditions.{Condition, Inputs}
+use Rattle.kn_model.specs.Conditions.{Condition}
+use Rattle.kn_cond.specs.declared.standing.Standing.TheVariants.{Inputs}
 use Rattle.kn_model.specs.Deciding.{clashes, forced, joined}
 use Rattle.kn_model.specs.Reports.{StateLine, FailureLine, Reach, At, Nowhere, singles}
 use Rattle.kn_model.specs.Laws.{IsNet}

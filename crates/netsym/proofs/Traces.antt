@@ -5,7 +5,7 @@ use Rattle.std.specs.List.{AllByRecursion}
 use Rattle.std.proofs.lemmas.List.{append-nil, length-append, length-map, take_all}
 use Rattle.std.proofs.lemmas.Option.{slice_get-get_or}
 use Rattle.kn_model.specs.Terms.{Term, terms}
-use Rattle.kn_model.specs.Histories.{Event}
+use Rattle.kn_packet.specs.declared.packet.Event.{Event}
 use Rattle.kn_model.specs.Nodes.{State}
 use Rattle.kn_model.specs.Nets.{Network, opening_node, no_plan}
 use Rattle.kn_model.specs.Due.{due}
@@ -17,14 +17,13 @@ use Rattle.kn_model.specs.Conditions.{Condition, that, IsLive}
 use Rattle.kn_model.specs.Deciding.{IsPlain, clashes}
 use Rattle.kn_model.specs.Limits.{IsPrefix, Begins, NoneBegins, TooManyPaths}
 use Rattle.kn_model.specs.Laws.{IsNet, Apart, AreApart}
-use Rattle.kn_model.proofs.Lists.{all-map, all-filter}
+use Rattle.kn_model.proofs.Lists.{all-map, all-filter, itself}
 use Rattle.kn_model.proofs.Implied.{all-contains, PathImplied, paths_implied}
 use Rattle.kn_model.proofs.EachWay.{Kept, all_event_ways}
 use Rattle.kn_model.proofs.Sending.{is_here}
 use Rattle.kn_model.proofs.Parting.{paths_apart}
 use Rattle.kn_model.proofs.Clashing.{not_true}
-use Rattle.kn_model.proofs.LeastInputs.{possible_by}
-use Rattle.kn_model.proofs.OverLimits.{live_by, itself}
+use Rattle.kn_model.proofs.LeastInputs.{possible_by, live_by}
 use Rattle.netsym.specs.Keeping.{Seen, seen_in, seen_at, path_lives}
 use Rattle.netsym.specs.Holding.{tidied}
 use Rattle.netsym.specs.Limiting.{HasManyPaths}

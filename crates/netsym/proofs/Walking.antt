@@ -5,7 +5,8 @@ use Rattle.std.proofs.lemmas.List.{map-append, append_assoc}
 use Rattle.kn_code.specs.declared.program.Instr.{Instr}
 use Rattle.kn_code.specs.declared.program.Instr.TheVariants as instrs
 use Rattle.kn_model.specs.Values.{Literal, Values, negated}
-use Rattle.kn_model.specs.Histories.{Event, Boot, Reboot, Mail, Timer}
+use Rattle.kn_packet.specs.declared.packet.Event.{Event}
+use Rattle.kn_packet.specs.declared.packet.Event.TheVariants.{Boot, Reboot, Packet as Mail, Timer}
 use Rattle.kn_model.specs.Packets.{Packet, packet_le, first_at, without_first}
 use Rattle.kn_model.specs.Nodes.{State, Fuel, is_running}
 use Rattle.kn_model.specs.Nets.{Network, Link}

@@ -1,6 +1,7 @@
 -- What an event of the program is in the definitions.
 use Rattle.std.specs.Prelude.{ℕ, ◌+◌}
-use Rattle.kn_model.specs.Histories.{Event as Events, Boot as boots, Mail as mails, Timer as timers}
+use Rattle.kn_packet.specs.declared.packet.Event.{Event as Events}
+use Rattle.kn_packet.specs.declared.packet.Event.TheVariants.{Boot as boots, Packet as mails, Timer as timers}
 use Rattle.netsym.specs.declared.explore.event.Event.{Event}
 use Rattle.netsym.specs.declared.explore.event.Event.TheVariants as events
 

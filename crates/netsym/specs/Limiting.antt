@@ -1,6 +1,6 @@
 -- Where an exploration passes a limit in a tick: an event has too many paths, or there are too many copies.
 use Rattle.std.specs.Prelude.{◌≡◌, ℕ, ◌<◌, ◌≤◌, Bool, List, length, filter, Contains, Some}
-use Rattle.kn_model.specs.Histories.{Event}
+use Rattle.kn_packet.specs.declared.packet.Event.{Event}
 use Rattle.kn_model.specs.Terms.{terms}
 use Rattle.kn_model.specs.Nets.{Network}
 use Rattle.kn_model.specs.Due.{due}

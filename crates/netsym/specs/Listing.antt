@@ -3,7 +3,8 @@ use Rattle.std.specs.Prelude.{ℕ, zero, suc, ◌+◌, if◌then◌else◌, Bool
 use Rattle.kn_model.specs.Terms.{Term}
 use Rattle.kn_model.specs.Nodes.{State, Outcome, Running, Halted, Failed}
 use Rattle.kn_model.specs.Nets.{Network}
-use Rattle.kn_model.specs.Conditions.{Condition, Inputs}
+use Rattle.kn_model.specs.Conditions.{Condition}
+use Rattle.kn_cond.specs.declared.standing.Standing.TheVariants.{Inputs}
 use Rattle.kn_model.specs.Deciding.{clashes, forced, joined}
 use Rattle.kn_model.specs.Reports.{Report, StateLine, FailureLine, Reach, At, Nowhere, Cob, singles}
 

@@ -9,7 +9,7 @@ use Rattle.kn_io.specs.Writing.{TakesFront}
 use Rattle.kn_model.specs.Nets.{Network}
 use Rattle.kn_model.specs.Reports.{Report, Cob, Gives}
 use Rattle.kn_model.specs.Limits.{Limit, States, Dstates, IsOverCopied}
-use Rattle.netsym.specs.Texts.{report_text, reached_in}
+use Rattle.netsym.specs.Texts.{report_text, reached_in, open_in}
 use Rattle.netsym.specs.Form.{IsFile}
 use Rattle.netsym.specs.declared.status.Status.{Status}
 use Rattle.netsym.specs.declared.status.Status.TheVariants as statuses
@@ -32,21 +32,23 @@ pub record Reads (left left' : Option (List ℕ)) (bytes : List ℕ) : Type 0 wh
   pub fits : length bytes ≤ limit
 
 -- The text is that of a report on the network of the file: what copying the whole network at every branch gives. It has no
--- more dstates than the network's limit.
+-- more dstates than the network's limit, and leaves no state and no failure open.
 pub record IsReportOn (bytes : List ℕ) (text : List ℕ) (r : Report) : Type 0 where
   pub net : Network
   pub form : IsFile bytes net
   pub given : Gives r net
   pub mapping : r.mapping ≡ Cob
   pub within : length r.dstates ≤ net.limits.dstates
+  pub decided : open_in r ≡ 0
   pub text_is : text ≡ report_text r
 
--- the text is that of a report on the network, and the status says whether a failure is reached
+-- the text is that of a report on the network that leaves nothing open, and the status says whether a failure is reached
 pub record IsTold (net : Network) (status : Status) (text : List ℕ) : Type 0 where
   pub report : Report
   pub given : Gives report net
   pub mapping : report.mapping ≡ Cob
   pub within : length report.dstates ≤ net.limits.dstates
+  pub decided : open_in report ≡ 0
   pub status_is : status ≡ (if nat_eq (reached_in report) 0 then statuses.Clean else statuses.Found)
   pub text_is : text ≡ report_text report
 
@@ -89,8 +91,8 @@ pub record IsLimited (net : Network) (text : List ℕ) : Type 0 where
 abbrev pub IsEither : Network → Status → List ℕ → Type 0
 IsEither net status text = IsTold net status text ⊎ ((status ≡ statuses.Limit) × IsLimited net text)
 
--- The status and the text that are right for some bytes: no failure is reached, or one is, or no network is described, or
--- the network passes a limit.
+-- The status and the text that are right for some bytes: no failure is reached, or one is, and in both cases nothing is open,
+-- or no network is described, or the network passes a limit.
 abbrev pub Answers : List ℕ → Status → List ℕ → Type 0
 Answers bytes statuses.Clean text = (r : Report) × IsReportOn bytes text r × (reached_in r ≡ 0)
 Answers bytes statuses.Found text = (r : Report) × IsReportOn bytes text r × (1 ≤ reached_in r)

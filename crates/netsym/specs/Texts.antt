@@ -3,7 +3,8 @@ use Rattle.std.specs.Prelude.{ℕ, ◌+◌, List, [], ◌∷◌, ◌++◌, lengt
 use Rattle.kn_trace.specs.Text.{text_of}
 use Rattle.kn_model.specs.Terms.{Given, Valuation}
 use Rattle.kn_model.specs.Nodes.{FailKind, Assert, Bounds, Fuel, Outcome, Running, Halted, Failed}
-use Rattle.kn_model.specs.Conditions.{Standing, Inputs, Open}
+use Rattle.kn_cond.specs.declared.standing.Standing.{Standing}
+use Rattle.kn_cond.specs.declared.standing.Standing.TheVariants.{Inputs, Open}
 use Rattle.kn_model.specs.Reports.{Report, StateLine, FailureLine, Mapping, Sds, Cob, Reach, At, Undecided, Nowhere}
 
 abbrev pub mapping_text : Mapping → List ℕ

@@ -6,7 +6,7 @@ ghost use Rattle.kn_model.specs.Laws.{IsNet};
 ghost use Rattle.kn_model.specs.Reports.{Cob, Gives};
 ghost use Rattle.netsym.specs.Plans.{IsBare, HasPlainPrograms};
 ghost use Rattle.netsym.specs.Stopping.{limit_of, IsPassed};
-ghost use Rattle.netsym.specs.Texts.{reached_in, report_text};
+ghost use Rattle.netsym.specs.Texts.{reached_in, open_in, report_text};
 ghost use Rattle.netsym.specs.Runs.{Answers, IsEither, IsTold, limit_line, not_form_line};
 
 use crate::explore::{LimitKind, Stop, explore};
@@ -21,7 +21,7 @@ use kn_plan::Net;
 use std::alloc::{AllocError, Global};
 use std::fmt;
 
-/// The report of a network: what copying it whole at every branch gives at its last tick.
+/// The report of a network: what copying it whole at every branch gives at its last tick. It leaves nothing open.
 pub fn report_of_net(alloc: Global, net: &Net) -> Result<Report, Stop>
     requires sound { IsNet net.now }
     requires plain { HasPlainPrograms net.now }
@@ -29,6 +29,7 @@ pub fn report_of_net(alloc: Global, net: &Net) -> Result<Report, Stop>
     ensures given { IfOk result (λ r. Gives r net.now) }
     ensures mapping { IfOk result (λ r. r.mapping ≡ Cob) }
     ensures within { IfOk result (λ r. length r.dstates ≤ net.now.limits.dstates) }
+    ensures decided { IfOk result (λ r. open_in r ≡ 0) }
     ensures passed { IfErr result (IsPassed net.now) }
 {
     let mut scenarios = explore(alloc, net)?;

@@ -1,6 +1,7 @@
 //! Reports: what an exploration found.
 
 use crate::explore::Outcome;
+use kn_cond::Standing;
 use kn_term::Valuation;
 use kn_trace::Trace;
 use std::alloc::Global;
@@ -21,15 +22,6 @@ pub enum Mapping {
     Cob,
 }
 
-/// What is known of the inputs that meet a condition.
-#[derive(Debug, Drop)]
-pub enum Standing {
-    /// The least inputs that meet it.
-    Inputs(Valuation),
-    /// It was not decided; so many valuations come before each one that meets it.
-    Open { leaves: u64 },
-}
-
 /// A node's state at the last tick: its trace, how it ended, and what is known of its own condition.
 #[derive(Debug, Drop)]
 pub struct StateLine {
@@ -42,11 +34,10 @@ pub struct StateLine {
 impl Model for StateLine {
     ghost use Rattle.kn_model.specs.Reports.{StateLine as Line};
     ghost use Rattle.netsym.specs.Views.{outcome_of};
-    ghost use Rattle.netsym.specs.ReportViews.{standing_of};
 
     ghost Value = { Line };
 
-    ghost view = { λ l. record { node = l.node; trace = l.trace; outcome = outcome_of l.outcome; standing = standing_of l.standing } };
+    ghost view = { λ l. record { node = l.node; trace = l.trace; outcome = outcome_of l.outcome; standing = l.standing } };
 }
 
 /// State numbers, one for each node.

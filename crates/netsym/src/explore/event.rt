@@ -3,7 +3,7 @@
 ghost use Rattle.std.specs.Prelude.{◌≡◌, ◌+◌, ◌<◌, ◌≤◌, length, find, nat_eq, MatchOption, IfSome, Some, None};
 ghost use Rattle.kn_model.specs.Packets.{first_at};
 ghost use Rattle.kn_model.specs.Terms.{terms};
-ghost use Rattle.kn_model.specs.Histories.{Timer};
+ghost use Rattle.kn_packet.specs.declared.packet.Event.TheVariants.{Timer};
 ghost use Rattle.kn_model.specs.Due.{due, left, how_many, comes_at, is_set_to, timer_from, mail_of, is_open, boot_due};
 ghost use Rattle.kn_model.specs.Paths.{begun, mail_in};
 ghost use Rattle.netsym.specs.Events.{event_of, handler_of};

@@ -11,7 +11,8 @@ ghost use Rattle.netsym.specs.Plain.{ArePlain, AreLong};
 
 use crate::explore::{Decision, NodeState, Outcome, Scenario, clash};
 use crate::plan::node_count;
-use crate::report::{Columns, FailureLine, Mapping, Pick, Reached, Report, Standing, StateLine};
+use crate::report::{Columns, FailureLine, Mapping, Pick, Reached, Report, StateLine};
+use kn_cond::Standing;
 use crate::valuation::forced_inputs;
 use kn_plan::Net;
 use std::alloc::{AllocError, Global};

@@ -2,11 +2,12 @@
 
 ghost use Rattle.std.specs.Prelude.{◌≡◌, ◌+◌, ◌++◌, [], ◌∷◌, IfOk, OnOk, codes, decimal, string_bytes, drop, flat_map, Some, count_by, length, ◌≤◌};
 ghost use Rattle.kn_model.specs.Reports.{At};
-ghost use Rattle.netsym.specs.ReportViews.{standing_of, reach_view};
+ghost use Rattle.netsym.specs.ReportViews.{reach_view};
 ghost use Rattle.netsym.specs.Texts.{input_text, inputs_text, standing_text, state_text, column_text, dstate_text, reach_text, failure_text, head_text, end_text, reached_in, open_in, is_at, is_undecided, is_open, numbered_from, report_text};
 
 use crate::explore::{FailKind, Outcome};
-use crate::report::{Columns, FailureLine, Mapping, Pick, Reached, Report, Standing, StateLine};
+use crate::report::{Columns, FailureLine, Mapping, Pick, Reached, Report, StateLine};
+use kn_cond::Standing;
 use kn_term::Valuation;
 use std::alloc::{AllocError, Global};
 use std::fmt;
@@ -81,7 +82,7 @@ fn put_inputs(text: &mut String, inputs: &Valuation) -> Result<(), AllocError>
 }
 
 fn put_standing(text: &mut String, standing: &Standing) -> Result<(), AllocError>
-    ensures { OnOk result (string_bytes text.new ≡ string_bytes text.old ++ standing_text (standing_of standing.now)) }
+    ensures { OnOk result (string_bytes text.new ≡ string_bytes text.old ++ standing_text standing.now) }
 {
     match standing {
         Standing::Inputs(inputs) => {
@@ -238,7 +239,7 @@ fn is_undecided_failure(reach: &Reached) -> bool
 }
 
 fn is_undecided_state(standing: &Standing) -> bool
-    ensures { result ≡ is_open (standing_of standing.now) }
+    ensures { result ≡ is_open standing.now }
 {
     matches!(standing, Standing::Open { .. })
 }

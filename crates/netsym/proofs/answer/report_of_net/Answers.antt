@@ -6,9 +6,11 @@ use Rattle.kn_model.specs.Nodes.{State}
 use Rattle.kn_model.specs.Reports.{Report, Gives}
 use Rattle.netsym.specs.Plain.{ArePlain, AreLong}
 use Rattle.netsym.specs.Listing.{report_of}
+use Rattle.netsym.specs.Texts.{open_in}
 use Rattle.netsym.proofs.Sorting.{all_moved}
 use Rattle.netsym.proofs.HeldGiven.{held_given}
 use Rattle.netsym.proofs.Making.{report_long}
+use Rattle.netsym.proofs.Decided.{none_open}
 use Rattle.netsym.proofs.answer.report_of_net.Goals as goal
 
 pub report_from-requires : goal.report_from-requires
@@ -34,3 +36,8 @@ returns-clause-within c =
     let same : c.in_ok-report.report ≡ report_of net list = c.in_ok-report.ensures.report ∙ ap (report_of net) c.deref.ensures.value in
     let long : length (report_of net list).dstates ≡ length c.in_ok-scenarios.scenarios.items = report_long net list ∙ length_permutation c.in_ok-scenarios.scenarios.items list c.sort_by_name.ensures.same in
     subst (λ (r : Report). length r.dstates ≤ net.limits.dstates) (sym same) (subst (λ (n : ℕ). n ≤ net.limits.dstates) (sym long) c.in_ok-scenarios.ensures.few)
+
+pub returns-clause-decided : goal.returns-clause-decided
+returns-clause-decided c =
+    let same = c.in_ok-report.ensures.report ∙ ap (report_of c.args.net.now) c.deref.ensures.value in
+    subst (λ (r : Report). open_in r ≡ 0) (sym same) (none_open c.args.net.now c.sort_by_name.new.list.items)

@@ -1,6 +1,6 @@
 use Rattle.std.proofs.Common.{◌≡◌, true, false, sym, ap, ◌∙◌}
 use Rattle.std.specs.Prelude.{Some, None, Option}
-use Rattle.kn_model.specs.Histories.{Event}
+use Rattle.kn_packet.specs.declared.packet.Event.{Event}
 use Rattle.kn_model.specs.Due.{or_else, mail_of, timer_from, boot_due, is_open}
 use Rattle.kn_model.specs.Packets.{first_at}
 use Rattle.netsym.specs.Events.{event_of}

@@ -1,0 +1,5 @@
+use Rattle.kn_model.proofs.AlikeTerms as over
+use Rattle.kn_model.proofs.laws.alike_paths.Goals as goal
+
+pub returns : goal.returns
+returns c = over.alike_paths

@@ -1,8 +1,0 @@
-use Rattle.kn_model.proofs.OverLimits as over
-use Rattle.kn_model.proofs.worked_limits.records_limit.Goals as goal
-
-pub returns-clause-kept : goal.returns-clause-kept
-returns-clause-kept c = over.records_kept
-
-pub returns-clause-passed : goal.returns-clause-passed
-returns-clause-passed c = over.records_over

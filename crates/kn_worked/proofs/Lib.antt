@@ -1,0 +1,10 @@
+pub mod LeastReport
+pub mod OneHalf
+pub mod SharpHalves
+pub mod ChoosyReports
+pub mod CopiedReport
+pub mod OpeningCore
+pub mod SentCore
+pub mod OverLimits
+pub mod Tried
+pub mod Pointing

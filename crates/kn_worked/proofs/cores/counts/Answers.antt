@@ -1,0 +1,8 @@
+use Rattle.kn_worked.proofs.OpeningCore as cores
+use Rattle.kn_worked.proofs.cores.counts.Goals as goal
+
+pub returns-clause-not_drawn : goal.returns-clause-not_drawn
+returns-clause-not_drawn c = cores.not_drawn
+
+pub returns-clause-stopped : goal.returns-clause-stopped
+returns-clause-stopped c = cores.stopped_early

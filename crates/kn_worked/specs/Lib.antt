@@ -1,0 +1,11 @@
+pub mod Networks
+pub mod Parts
+pub mod Tree
+pub mod Report
+pub mod Chain
+pub mod OneTick
+pub mod Packets
+pub mod Edges
+pub mod Limits
+pub mod Cores
+pub mod Reports
