@@ -1,0 +1,2 @@
+-- The lemmas on verdicts.
+pub mod Ranks

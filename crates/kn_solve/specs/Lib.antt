@@ -1,0 +1,3 @@
+-- The definitions of formulas and verdicts.
+pub mod Formulas
+pub mod Orders
