@@ -6,7 +6,6 @@ pub mod Steps
 pub mod Moving
 pub mod Arithmetic
 pub mod Dividing
-pub mod Marking
 pub mod Reading
 pub mod Laying
 pub mod Tabling

@@ -1,54 +1,43 @@
 -- What was opened for roots.
-use Rattle.std.proofs.Common.{◌≡◌, ℕ, zero, suc, ◌<◌, ◌≤◌, Bool, true, false, List, [], ◌∷◌, length, Some, refl, ap, sym, subst, ◌∙◌, arith, inl, inr}
-use Rattle.std.specs.Prelude.{slice_get}
-use Rattle.std.proofs.lemmas.Bool.{cases_lt}
-use Rattle.std.proofs.lemmas.List.{get_or_past}
+use Rattle.std.proofs.Common.{◌≡◌, ℕ, zero, suc, ◌<◌, ◌≤◌, List, [], ◌∷◌, length, Some, ap, sym, subst, ◌∙◌, arith}
+use Rattle.std.specs.Prelude.{◌↔◌, slice_get}
 use Rattle.std.proofs.lemmas.Option.{slice_get_within}
 use Rattle.kn_term.specs.declared.node.Node.{Node}
 use Rattle.kn_term.specs.declared.node.Ref.{Ref}
-use Rattle.kn_term.specs.Terms.{Valuation, Reads, listed}
+use Rattle.kn_term.specs.Terms.{Valuation, listed}
 use Rattle.kn_term.specs.Nodes.{term_at, AreNodes}
 use Rattle.kn_term.specs.Valuations.{AreEntries}
 use Rattle.kn_blast.specs.declared.inputs.InputBits.{InputBits}
 use Rattle.kn_blast.specs.Inputs.{width_of, AreInputBits, Covers, laid_out}
-use Rattle.kn_blast.specs.Reached.{RootsStand, RootsRead, IsMarked, AreRootsMarked, AreMarkedFrom, ReadOnlyRoots, AreWide, AreRead}
-use Rattle.kn_blast.proofs.Reading.{all_wide, width_read, width_narrow}
+use Rattle.kn_term.specs.Reached.{RootsStand, IsReached, Root, IsAmong}
+use Rattle.kn_blast.specs.Reached.{RootsRead, AreWide, AreRead}
+use Rattle.kn_blast.proofs.Reading.{all_wide, reached_reads, width_read, width_narrow}
 use Rattle.kn_blast.proofs.Laying.{width_laid, bits_laid}
 
-pub opened_order : (ns : List Node) (marks : List Bool) (a : Valuation) (entries : List InputBits) → AreNodes ns → AreRead ns marks a → AreEntries a → entries ≡ laid_out 0 a → AreInputBits 0 entries
-opened_order ns marks a entries are read h e = subst (AreInputBits 0) (sym e) (bits_laid a 0 h (width_narrow ns marks a are read))
+pub opened_order : (ns : List Node) (places : List ℕ) (a : Valuation) (entries : List InputBits) → AreNodes ns → AreRead ns places a → AreEntries a → entries ≡ laid_out 0 a → AreInputBits 0 entries
+opened_order ns places a entries are read h e = subst (AreInputBits 0) (sym e) (bits_laid a 0 h (width_narrow ns places a are read))
 
 width_opened : (a : Valuation) (entries : List InputBits) (n k : ℕ) → entries ≡ laid_out 0 a → width_of entries n k ≡ listed a n k
 width_opened a entries n k e = ap (λ (es : List InputBits). width_of es n k) e ∙ width_laid a 0 n k
 
-pub opened_covers : (ns : List Node) (roots : List Ref) (marks ms : List Bool) (a : Valuation) (entries : List InputBits) → ms ≡ marks → AreNodes ns → RootsStand (length ns) roots → AreMarkedFrom ns marks 0 → AreRootsMarked roots marks (length roots)
-    → AreWide ns ms a (length ms) → entries ≡ laid_out 0 a → (place : ℕ) (r : Ref) → slice_get roots place ≡ Some r → Covers entries (term_at ns r.index)
-opened_covers ns roots marks ms a entries same are stand closed marked wide e place r is n k width reads =
-    let all : AreWide ns marks a (length marks) = subst (λ (bs : List Bool). AreWide ns bs a (length bs)) same wide in
-    subst (λ (v : ℕ). width ≤ v) (sym (width_opened a entries n k e)) (all_wide ns marks a are closed all r.index (stand place r is) (marked place r (slice_get_within roots place r is) is) n k width reads)
+pub opened_covers : (ns : List Node) (roots : List Ref) (places ps : List ℕ) (a : Valuation) (entries : List InputBits) → ps ≡ places → AreNodes ns → RootsStand (length ns) roots → ((place : ℕ) → IsAmong places place ↔ IsReached ns roots place)
+    → AreWide ns ps a → entries ≡ laid_out 0 a → (i : ℕ) (r : Ref) → slice_get roots i ≡ Some r → Covers entries (term_at ns r.index)
+opened_covers ns roots places ps a entries same are stand exact wide e i r is n k width reads =
+    subst (λ (v : ℕ). width ≤ v) (sym (width_opened a entries n k e)) (all_wide ns roots places a are exact (subst (λ (l : List ℕ). AreWide ns l a) same wide) r.index (stand i r is) (Root r.index (i, is)) n k width reads)
 
-pub opened_read : (ns : List Node) (roots : List Ref) (marks ms : List Bool) (a : Valuation) (entries : List InputBits) → ms ≡ marks → AreNodes ns → ReadOnlyRoots ns roots marks → AreRead ns ms a → entries ≡ laid_out 0 a
+pub opened_read : (ns : List Node) (roots : List Ref) (places ps : List ℕ) (a : Valuation) (entries : List InputBits) → ps ≡ places → AreNodes ns → ((place : ℕ) → IsAmong places place ↔ IsReached ns roots place) → AreRead ns ps a → entries ≡ laid_out 0 a
     → (n k : ℕ) → 0 < width_of entries n k → RootsRead ns roots n k (width_of entries n k)
-opened_read ns roots marks ms a entries same are only read e n k h =
+opened_read ns roots places ps a entries same are exact read e n k h =
     let width = width_opened a entries n k e in
-    subst (λ (v : ℕ). RootsRead ns roots n k v) (sym width) (width_read ns roots marks a are only (subst (λ (bs : List Bool). AreRead ns bs a) same read) n k (subst (λ (v : ℕ). 0 < v) width h))
+    subst (λ (v : ℕ). RootsRead ns roots n k v) (sym width) (width_read ns roots places a are exact (subst (λ (l : List ℕ). AreRead ns l a) same read) n k (subst (λ (v : ℕ). 0 < v) width h))
 
--- what one root reads
-pub one_read : (ns : List Node) (r : Ref) (n k width : ℕ) → RootsRead ns (r ∷ []) n k width → Reads n k width (term_at ns r.index)
-one_read ns r n k width reads = go reads.0 reads.1 reads.2 reads.3 where
-  go : (place : ℕ) (s : Ref) → slice_get (r ∷ []) place ≡ Some s → Reads n k width (term_at ns s.index) → Reads n k width (term_at ns r.index)
-  go zero s e h = let same : s ≡ r = cc in subst (λ (t : Ref). Reads n k width (term_at ns t.index)) same h
-  go (suc place) s e h = absurd (omega (arith, slice_get_within (r ∷ []) (suc place) s e))
+-- what the roots read is covered, so what a term at a place that they reach reads is
+pub covered_reached : (ns : List Node) (roots : List Ref) (entries : List InputBits) (place : ℕ) → AreNodes ns → IsReached ns roots place → ((i : ℕ) (r : Ref) → slice_get roots i ≡ Some r → Covers entries (term_at ns r.index)) → Covers entries (term_at ns place)
+covered_reached ns roots entries place are up covers n k width reads =
+    let read = reached_reads ns roots place n k width are up reads in
+    covers read.0 read.1 read.2 n k width read.3
 
-pub covered_read : (ns : List Node) (r : Ref) (marks ms : List Bool) (entries : List InputBits) → ms ≡ marks → ReadOnlyRoots ns (r ∷ []) marks → Covers entries (term_at ns r.index) → (place : ℕ) → IsMarked ms place → Covers entries (term_at ns place)
-covered_read ns r marks ms entries same only covers place mark n k width reads = covers n k width (one_read ns r n k width (only place n k width (subst (λ (bs : List Bool). IsMarked bs place) same mark) reads))
-
--- a mark stands among the marks
-pub mark_within : (marks : List Bool) (place : ℕ) → IsMarked marks place → place < length marks
-mark_within marks place mark = elim (cases_lt place (length marks)) [ inl h ↦ h | inr h ↦ absurd (never (sym mark ∙ get_or_past marks place false h)) ]
-  where
-    never : true ≡ false → ⊥
-    never e = cc
-
-pub root_mark : (r : Ref) (marks : List Bool) → AreRootsMarked (r ∷ []) marks (length (r ∷ [])) → IsMarked marks r.index
-root_mark r marks all = all zero r (omega arith) refl
+-- what is so of one root is so of each of a list of it alone
+pub one_root : (P : Ref → Type 0) (r : Ref) → P r → (i : ℕ) (s : Ref) → slice_get (r ∷ []) i ≡ Some s → P s
+one_root P r one zero s e = let same : r ≡ s = cc in subst P same one
+one_root P r one (suc i) s e = absurd (omega (arith, slice_get_within (r ∷ []) (suc i) s e))

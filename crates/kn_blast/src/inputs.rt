@@ -9,12 +9,12 @@ ghost use Rattle.kn_term.specs.Terms.{listed};
 ghost use Rattle.kn_aig.specs.Circuits.{inputs_of};
 ghost use Rattle.kn_blast.specs.Spelling.{weight};
 ghost use Rattle.kn_blast.specs.Inputs.{width_of, bits_of, word_before, given_by, IsGivenBy, AreInputBits, Covers, IsOpenIn};
-ghost use Rattle.kn_blast.specs.Reached.{RootsStand, RootsRead};
+ghost use Rattle.kn_term.specs.Reached.{RootsStand};
+ghost use Rattle.kn_blast.specs.Reached.{RootsRead};
 
-use crate::marks::reached;
 use crate::opening::{laid_out, widths_read};
 use kn_aig::Aig;
-use kn_term::{Ref, Terms, Valuation};
+use kn_term::{Ref, Terms, Valuation, reached};
 use std::alloc::{AllocError, Global};
 use std::marker::Model;
 
@@ -77,8 +77,8 @@ impl InputMap {
         ensures grows { Extends aig.old aig.new }
     {
         terms.order();
-        let marks = reached(alloc, terms, roots)?;
-        let widths = widths_read(alloc, terms, &marks)?;
+        let places = reached(alloc, terms, roots)?;
+        let widths = widths_read(alloc, terms, &places)?;
         let entries = laid_out(alloc, &widths, aig)?;
         Ok(InputMap { entries })
     }

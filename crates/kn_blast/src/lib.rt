@@ -6,16 +6,16 @@ mod circuit;
 mod division;
 mod gates;
 mod inputs;
-mod marks;
 mod nodes;
 mod opening;
 mod operators;
 mod shifts;
 mod words;
 
-pub use circuit::{Word, blast};
+pub use circuit::{Word, blast, blast_all};
 pub use inputs::{InputBits, InputMap};
 pub use std::alloc::AllocError as Memory;
+pub use words::is_not_zero;
 
 #[cfg(test)]
 mod tests;

@@ -4,6 +4,7 @@ ghost use Rattle.std.specs.Prelude.{◌≡◌, ℕ, ◌+◌, ◌<◌, ◌≤◌,
 ghost use Rattle.kn_aig.specs.Circuits.{Extends};
 ghost use Rattle.kn_term.specs.Terms.{listed};
 ghost use Rattle.kn_term.specs.Valuations.{AreEntries};
+ghost use Rattle.kn_term.specs.Reached.{AreInOrder};
 ghost use Rattle.kn_aig.specs.Circuits.{inputs_of};
 ghost use Rattle.kn_blast.specs.Inputs.{bits_of, IsOpenIn, HasOnlyInputs, laid_out};
 ghost use Rattle.kn_blast.specs.Reached.{IsWidened, AreWide, AreRead};
@@ -13,37 +14,32 @@ use kn_aig::Aig;
 use kn_term::{Node, Ref, Terms, Valuation};
 use std::alloc::{AllocError, Global};
 
-/// The greatest width of each input at marked places, as its word.
+/// The greatest width of each input at these places, as its word.
 pub(crate) fn widths_read(
     alloc: Global,
     terms: &Terms,
-    marks: &[bool],
+    places: &[usize],
 ) -> Result<Valuation, AllocError>
-    requires { length marks.now ≤ length terms.now }
-    ensures wide { IfOk result (λ a. AreWide terms.now marks.now a (length marks.now)) }
-    ensures read { IfOk result (λ a. AreRead terms.now marks.now a) }
+    requires { AreInOrder terms.now places.now }
+    ensures wide { IfOk result (λ a. AreWide terms.now places.now a) }
+    ensures read { IfOk result (λ a. AreRead terms.now places.now a) }
     ensures entries { IfOk result (λ a. AreEntries a) }
 {
     let mut widths = Valuation::new(alloc);
-    for place in 0..marks.len() {
-        widen_at(&mut widths, terms, place, marks[place])?;
+    for place in places {
+        widen_at(&mut widths, terms, *place)?;
     }
     widths.order();
     Ok(widths)
 }
 
-/// Takes in the width of the input at a place, if one is there and the place is marked.
-fn widen_at(
-    widths: &mut Valuation,
-    terms: &Terms,
-    place: usize,
-    is_marked: bool,
-) -> Result<(), AllocError>
+/// Takes in the width of the input at a place, if one is there.
+fn widen_at(widths: &mut Valuation, terms: &Terms, place: usize) -> Result<(), AllocError>
     requires { place < length terms.now }
-    ensures { OnOk result (IsWidened terms.now place is_marked widths.old widths.new) }
+    ensures { OnOk result (IsWidened terms.now place widths.old widths.new) }
 {
     match terms.node(Ref { index: place }) {
-        Node::Input { node, index, width } if is_marked => widen(widths, node, index, width),
+        Node::Input { node, index, width } => widen(widths, node, index, width),
         _ => Ok(()),
     }
 }

@@ -131,6 +131,36 @@ fn a_choice_has_the_words_of_its_sides(rt: HostRuntime) -> Result<(), Fail> {
     Ok(())
 }
 
+/// The words of a sum and of its first side, which are made at once, where the two inputs are these words, and whether the
+/// first side is not 0 there.
+fn sum_and_side(alloc: Global, x: u16, y: u16) -> Result<Option<(u16, u16, bool)>, Memory> {
+    let mut terms = Terms::new(alloc);
+    let first = terms.input(0, 0, 4)?;
+    let second = terms.input(0, 1, 4)?;
+    let sum = terms.apply(Op::Add, first, second)?;
+    let mut aig = Aig::new(alloc);
+    let inputs = InputMap::open(alloc, &terms, &[sum, first], &mut aig)?;
+    let words = blast_all(alloc, &terms, &[sum, first], &mut aig, &inputs)?;
+    let bits = bits_of_pair(x, y);
+    if aig.inputs() != bits.len() {
+        return Ok(None);
+    }
+    let (of_sum, of_side) = (
+        spelled(&aig, &words[0], &bits)?,
+        spelled(&aig, &words[1], &bits)?,
+    );
+    let some = is_not_zero(&mut aig, &words[1])?;
+    Ok(Some((of_sum, of_side, aig.value(&bits, some)?)))
+}
+
+#[test]
+fn terms_have_words_in_the_order_of_their_roots(rt: HostRuntime) -> Result<(), Fail> {
+    let alloc = rt.alloc();
+    assert_eq!(rt; sum_and_side(alloc, 3, 9)?, Some((12, 3, true)));
+    assert_eq!(rt; sum_and_side(alloc, 0, 9)?, Some((9, 0, false)));
+    Ok(())
+}
+
 #[test]
 fn types_are_shared(_rt: HostRuntime) -> Result<(), Fail> {
     is_shared::<InputBits>();

@@ -65,9 +65,10 @@ pub(crate) fn choice(
     Ok(word)
 }
 
-/// The edge that is true where a word is not 0.
+/// The edge that is true where a word is not 0. No input comes to the circuit, and earlier edges keep their values. Err is
+/// want of memory.
 #[tactic(auto, using(crate::proofs::Growing::growing))]
-pub(crate) fn is_not_zero(aig: &mut Aig, xs: &[Edge]) -> Result<Edge, AllocError>
+pub fn is_not_zero(aig: &mut Aig, xs: &[Edge]) -> Result<Edge, AllocError>
     requires { AllStand aig.old xs.now }
     ensures edge { IfOk result (λ e. Has aig.new e (λ bits. not (nat_eq (number bits aig.old xs.now) 0))) }
     ensures grows { Grows aig.old aig.new }

@@ -26,7 +26,7 @@ use Rattle.kn_model.specs.Laws.{AlikeStandings}
 abbrev Same : Read → Read → Type 0
 Same r s = (r.node ≡ s.node) × (r.index ≡ s.index)
 
-abbrev Covers : List Read → Read → Type 0
+abbrev pub Covers : List Read → Read → Type 0
 Covers [] r = ⊥
 Covers (s ∷ ss) r = (Same r s × (r.width ≤ s.width)) ⊎ Covers ss r
 
@@ -60,7 +60,7 @@ all_still : (r : Read) (ss rs : List Read) → AllByRecursion (Covers ss) rs →
 all_still r ss [] h = tt
 all_still r ss (q ∷ rs) h = (put_still r ss q h.0, all_still r ss rs h.1)
 
-widest_has : (rs : List Read) → AllByRecursion (Covers (widest rs)) rs
+pub widest_has : (rs : List Read) → AllByRecursion (Covers (widest rs)) rs
 widest_has [] = tt
 widest_has (r ∷ rs) = (put_has r (widest rs), all_still r (widest rs) rs (widest_has rs))
 
@@ -97,7 +97,7 @@ all_within P (r ∷ rs) qs w h =
     (all-contains P qs r h (w r (0, omega arith, refl)), all_within P rs qs (λ q c. let i = c.1 in w q (suc c.0, omega (arith, i), c.2)) h)
 
 -- In order of places: the first list is within the second, with no greater widths.
-abbrev Above : Read → List Read → Type 0
+abbrev pub Above : Read → List Read → Type 0
 Above r rs = AllByRecursion (λ (s : Read). Under r.node r.index s.node s.index) rs
 
 abbrev Rising : List Read → Type 0
@@ -223,10 +223,10 @@ decided w v = go (nat_lt w v) refl (nat_eq w v) refl
     go false h true i = eqb-true w v i
     go false h false i = let le = ltb-false w v h in let ne = eqb-false w v i in omega (arith, le, ne)
 
-first_less : (w v : ℕ) (ws vs : List ℕ) → w < v → ComesBefore (w ∷ ws) (v ∷ vs)
+pub first_less : (w v : ℕ) (ws vs : List ℕ) → w < v → ComesBefore (w ∷ ws) (v ∷ vs)
 first_less w v ws vs h = rw (lt-ltb w v h) refl
 
-first_same : (w v : ℕ) (ws vs : List ℕ) → w ≡ v → ComesBefore ws vs → ComesBefore (w ∷ ws) (v ∷ vs)
+pub first_same : (w v : ℕ) (ws vs : List ℕ) → w ≡ v → ComesBefore ws vs → ComesBefore (w ∷ ws) (v ∷ vs)
 first_same w v ws vs e h = subst (λ (x : ℕ). ComesBefore (w ∷ ws) (x ∷ vs)) e (rw (le-ltb w w (omega arith), eq-eqb w w refl) h)
 
 -- what the first word says
@@ -294,39 +294,39 @@ extended_is (r ∷ rs) (s ∷ ss) (inl h) i (w ∷ ws) a =
 extended_is (r ∷ rs) (s ∷ ss) (inr h) i ws a = extended_is (r ∷ rs) ss h.1 i ws a
 
 -- the word that is listed for an input: of its read, or that of the others
-listed_same : (r : Read) (w : ℕ) (a : Valuation) (n k : ℕ) → r.node ≡ n → r.index ≡ k → listed a n k ≡ 0 → listed (listing r w a) n k ≡ w
+pub listed_same : (r : Read) (w : ℕ) (a : Valuation) (n k : ℕ) → r.node ≡ n → r.index ≡ k → listed a n k ≡ 0 → listed (listing r w a) n k ≡ w
 listed_same r w a n k e i z = go (nat_eq w 0) refl
   where
     go : (b : Bool) → nat_eq w 0 ≡ b → listed (cond b a (record { node = r.node; index = r.index; word = w } ∷ a)) n k ≡ w
     go true f = z ∙ sym (eqb-true w 0 f)
     go false f = rw (eq-eqb r.node n e, eq-eqb r.index k i) refl
 
-other_place : (r : Read) (n k : ℕ) → Under r.node r.index n k → (nat_eq r.node n && nat_eq r.index k) ≡ false
+pub other_place : (r : Read) (n k : ℕ) → Under r.node r.index n k → (nat_eq r.node n && nat_eq r.index k) ≡ false
 other_place r n k (inl h) = ap (λ (b : Bool). b && nat_eq r.index k) (ne_eqb r.node n (λ e. omega (arith, h, e)))
 other_place r n k (inr h) = let i = h.1 in rw (eq-eqb r.node n h.0, ne_eqb r.index k (λ e. omega (arith, i, e))) refl
 
-place_other : (r : Read) (n k : ℕ) → Under n k r.node r.index → (nat_eq r.node n && nat_eq r.index k) ≡ false
+pub place_other : (r : Read) (n k : ℕ) → Under n k r.node r.index → (nat_eq r.node n && nat_eq r.index k) ≡ false
 place_other r n k (inl h) = ap (λ (b : Bool). b && nat_eq r.index k) (ne_eqb r.node n (λ e. omega (arith, h, e)))
 place_other r n k (inr h) = let i = h.1 in rw (eq-eqb r.node n (sym h.0), ne_eqb r.index k (λ e. omega (arith, i, e))) refl
 
-listed_other : (r : Read) (w : ℕ) (a : Valuation) (n k : ℕ) → (nat_eq r.node n && nat_eq r.index k) ≡ false → listed (listing r w a) n k ≡ listed a n k
+pub listed_other : (r : Read) (w : ℕ) (a : Valuation) (n k : ℕ) → (nat_eq r.node n && nat_eq r.index k) ≡ false → listed (listing r w a) n k ≡ listed a n k
 listed_other r w a n k f = go (nat_eq w 0)
   where
     go : (b : Bool) → listed (cond b a (record { node = r.node; index = r.index; word = w } ∷ a)) n k ≡ listed a n k
     go true = refl
     go false = rw f refl
 
-listed_above : (r : Read) (ss : List Read) → Above r ss → (vs : List ℕ) → listed (valuation_of ss vs) r.node r.index ≡ 0
+pub listed_above : (r : Read) (ss : List Read) → Above r ss → (vs : List ℕ) → listed (valuation_of ss vs) r.node r.index ≡ 0
 listed_above r [] a vs = refl
 listed_above r (s ∷ ss) a [] = refl
 listed_above r (s ∷ ss) a (v ∷ vs) = listed_other s v (valuation_of ss vs) r.node r.index (place_other s r.node r.index a.0) ∙ listed_above r ss a.1 vs
 
-covered_above : (r : Read) (ss : List Read) → Above r ss → (q : Read) → Covers ss q → Under r.node r.index q.node q.index
+pub covered_above : (r : Read) (ss : List Read) → Above r ss → (q : Read) → Covers ss q → Under r.node r.index q.node q.index
 covered_above r [] a q c = absurd c
 covered_above r (s ∷ ss) a q (inl c) = subst (λ n. Under r.node r.index n q.index) (sym c.0.0) (subst (λ n. Under r.node r.index s.node n) (sym c.0.1) a.0)
 covered_above r (s ∷ ss) a q (inr c) = covered_above r ss a.1 q c
 
-cut_wider : (v i j : ℕ) → i ≤ j → v % 2 ^ j % 2 ^ i ≡ v % 2 ^ i
+pub cut_wider : (v i j : ℕ) → i ≤ j → v % 2 ^ j % 2 ^ i ≡ v % 2 ^ i
 cut_wider v i j h = subst (λ (n : ℕ). v % 2 ^ n % 2 ^ i ≡ v % 2 ^ i) (omega (arith, h)) (mod-mod-pow v (j - i) i)
 
 -- what is cut gives the same words to each input that the first list has
@@ -354,7 +354,7 @@ cut_listed (r ∷ rs) (s ∷ ss) (inr h) i j (v ∷ vs) b q c =
     ∙ cut_listed (r ∷ rs) ss h.1 i j.1 vs b.1 q c
 
 -- conditions go by the inputs that they read
-abbrev Agree : Valuation → Valuation → List Read → Type 0
+abbrev pub Agree : Valuation → Valuation → List Read → Type 0
 Agree a b rs = AllByRecursion (λ (r : Read). input_word a r.node r.index r.width ≡ input_word b r.node r.index r.width) rs
 
 agree_left : (a b : Valuation) (rs ss : List Read) → Agree a b (rs ++ ss) → Agree a b rs
@@ -376,7 +376,7 @@ ev_agrees a b (Choice c x y) h =
     ∙ (ap (λ (w : ℕ). chosen_word (ev b c) w (ev a y)) (ev_agrees a b x (agree_left a b (reads_in x) (reads_in y) rest))
     ∙ ap (chosen_word (ev b c) (ev b x)) (ev_agrees a b y (agree_right a b (reads_in x) (reads_in y) rest)))
 
-holds_agrees : (a b : Valuation) (c : Condition) → Agree a b (reads_of c) → holds a c ≡ holds b c
+pub holds_agrees : (a b : Valuation) (c : Condition) → Agree a b (reads_of c) → holds a c ≡ holds b c
 holds_agrees a b [] h = refl
 holds_agrees a b (l ∷ c) h =
     ap (λ (w : ℕ). word_holds (record { value = w; truth = l.truth }) && holds a c) (ev_agrees a b l.value (agree_left a b (reads_in l.value) (reads_of c) h))

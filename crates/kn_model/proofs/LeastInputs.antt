@@ -24,7 +24,7 @@ under_on n k m j p q (inl h) (inr i) = let e = i.0 in inl (omega (arith, h, e))
 under_on n k m j p q (inr h) (inl i) = let e = h.0 in inl (omega (arith, e, i))
 under_on n k m j p q (inr h) (inr i) = let x = h.1 in let y = i.1 in inr (h.0 ∙ i.0, omega (arith, x, y))
 
-before_true : (n k m j : ℕ) → Under n k m j → (nat_lt n m || nat_eq n m && nat_lt k j) ≡ true
+pub before_true : (n k m j : ℕ) → Under n k m j → (nat_lt n m || nat_eq n m && nat_lt k j) ≡ true
 before_true n k m j (inl h) = ap (λ (b : Bool). b || nat_eq n m && nat_lt k j) (lt-ltb n m h)
 before_true n k m j (inr h) =
     let e = h.0 in
@@ -78,10 +78,10 @@ place r s = go (nat_cmp r.node s.node) (order r.node s.node) (nat_cmp r.index s.
     go Equal h Greater i = inr (sym h, i)
 
 -- reads in order of their places
-abbrev Above : ℕ → ℕ → List Read → Type 0
+abbrev pub Above : ℕ → ℕ → List Read → Type 0
 Above n k rs = AllByRecursion (λ (s : Read). Under n k s.node s.index) rs
 
-abbrev Sorted : List Read → Type 0
+abbrev pub Sorted : List Read → Type 0
 Sorted [] = Unit {0}
 Sorted (r ∷ rs) = Above r.node r.index rs × Sorted rs
 

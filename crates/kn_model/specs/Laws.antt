@@ -23,6 +23,7 @@ use Rattle.kn_model.specs.Reports.{Rises, trace_cmp, ends, pick_condition}
 use Rattle.kn_model.specs.Replays.{node_of, own_of}
 use Rattle.kn_model.specs.Alikes.{MetAt, seen, OneByOne, Alike, AlikePath, AlikeSend, AlikeRun, AlikeRunPath, ConditionAlike, AreGiven}
 use Rattle.kn_built.specs.Picks.{SameItems}
+use Rattle.kn_model.specs.Least.{IsFirst}
 
 -- a state with these packets in its queue
 abbrev pub queued_all : {V : Type 0} → List (Packet V) → State V → State V
@@ -181,6 +182,10 @@ ClashIsImpossible = (c : Condition) → clashes c ≡ true → IsImpossible (tha
 -- Of a condition on constants and inputs of one bit that does not clash, the inputs that it forces to be 1 are the least that meet it.
 abbrev pub ForcedIsLeast : Type 0
 ForcedIsLeast = (c : Condition) → IsPlain c → clashes c ≡ false → IsLeast (that c) (forced c)
+
+-- The least words for what a condition reads are the first of all inputs that meet it.
+abbrev pub LeastIsFirst : Type 0
+LeastIsFirst = (c : Condition) (a : Valuation) → IsLeast (that c) a → IsFirst (λ b. holds b c ≡ true) a
 
 -- Columns of one alternative each ask the same of the inputs as one condition that joins them.
 abbrev pub JoinedIsOne : Type 0

@@ -68,19 +68,12 @@ fn copies_are_equal(rt: HostRuntime) -> Result<(), Fail> {
     let other = packet(&rt, 4, 0, 8, 1)?;
     assert!(rt; one.copy()? == one);
     assert!(rt; one != other);
-    assert!(rt; one.stamp.copy()? == one.stamp);
     let mut queue = Queue::new(rt.alloc());
     assert!(rt; queue.post(one).is_ok());
     let copy = queue.copy()?;
     assert!(rt; copy == queue);
     assert!(rt; queue.post(other).is_ok());
     assert!(rt; copy != queue);
-    let mail = Event::Packet {
-        from: 0,
-        seq: 8,
-        copy: 0,
-    };
-    assert!(rt; mail == mail && mail != Event::Boot && Event::Timer { number: 1 } != Event::Reboot);
     is_shared::<Stamp>();
     is_shared::<Packet>();
     is_shared::<Event>();

@@ -1,21 +1,24 @@
 -- Terms in which no constant is left to fold.
-use Rattle.std.proofs.Common.{◌≡◌, ℕ, ◌+◌, ◌<◌, Bool, true, false, List, [], ◌∷◌, ◌++◌, length, get_or, Option, Some, None, MatchOption, refl, sym, ap, subst, ◌∙◌, arith, inl, inr}
-use Rattle.std.specs.Prelude.{◌⊎◌, slice_get}
-use Rattle.std.proofs.lemmas.Bool.{cases_lt}
-use Rattle.std.proofs.lemmas.List.{get_or_append_left, get_or_push, length_push}
-use Rattle.std.proofs.lemmas.Option.{slice_get_within, slice_get_read, slice_get-get_or, get_or_from_slice_get}
+use Rattle.std.proofs.Common.{◌≡◌, ℕ, ◌+◌, ◌<◌, Bool, true, false, cond, List, [], ◌∷◌, ◌++◌, length, take, get_or, Option, Some, None, MatchOption, refl, sym, ap, subst, ◌∙◌, arith, inl, inr}
+use Rattle.std.specs.Prelude.{◌⊎◌, slice_get, nat_eq}
+use Rattle.std.specs.HashMap.{HashMap, get}
+use Rattle.std.proofs.lemmas.List.{get_or_append_left}
+use Rattle.std.proofs.lemmas.Option.{slice_get_read, slice_get-get_or, get_or_from_slice_get}
 use Rattle.kn_built.specs.Built.{Extends}
 use Rattle.kn_built.proofs.BuiltLaws.{length-extends}
 use Rattle.kn_word.specs.declared.Op.{Op}
 use Rattle.kn_term.specs.declared.node.Node.{Node}
 use Rattle.kn_term.specs.declared.node.Node.TheVariants as nodes
 use Rattle.kn_term.specs.declared.node.Ref.{Ref}
-use Rattle.kn_term.specs.Nodes.{term_at, term_of, terms_of, IsNodeAt}
+use Rattle.kn_term.specs.Nodes.{term_at, term_of, terms_of}
+use Rattle.kn_term.specs.Reached.{IsAmong, AreInOrder}
+use Rattle.kn_term.proofs.Reaching.{among_push, in_order_within}
 use Rattle.kn_term.proofs.Kept.{term_at-extends}
-use Rattle.kn_simplify.specs.Simpler.{AreSimpler}
+use Rattle.kn_simplify.specs.Simpler.{AreSimpler, simpler_in}
+use Rattle.kn_simplify.proofs.Simpler.{at_place}
 use Rattle.kn_term.specs.Terms.{Term, Word, Input, Apply, Choice}
 use Rattle.kn_simplify.specs.Laws.{IsUnknown, MayBeNeeded}
-use Rattle.kn_simplify.specs.Folded.{IsWord, is_idle_twice, IsNeeded, IsFoldedTop, IsFolded, HasFoldedOperands, IsMarked, HasMarkedOperands, AreMarkedFrom, IsFoldedFor, HasFoldedFor, AreFolded}
+use Rattle.kn_simplify.specs.Folded.{IsWord, is_idle_twice, IsNeeded, IsFoldedTop, IsFolded, HasFoldedOperands, IsFoldedFor, HasFoldedFor, AreFolded}
 
 -- folded at the top, and below
 pub folded_of : (t : Term) → IsFoldedTop t → HasFoldedOperands t → IsFolded t
@@ -67,54 +70,41 @@ none_idle op left right same s t e a b needed is idle =
     let clash : true ≡ false = sym idle ∙ needed.twice is h.0 h.1 in
     cc
 
--- the operands that a table has for a node's are folded where its places are marked
-pub operands_folded : (ns : List Node) (marks : List Bool) (table : List Ref) (n : Node) → AreFolded ns marks table → HasMarkedOperands marks n → HasFoldedFor ns table n
-operands_folded ns marks table (nodes.Konst w) are is = tt
-operands_folded ns marks table (nodes.Input n k width) are is = tt
-operands_folded ns marks table (nodes.Apply op x y) are is = (are x.index is.0, are y.index is.1)
-operands_folded ns marks table (nodes.Ite c x y) are is = (are c.index is.0, are x.index is.1, are y.index is.2)
+named_folded_by : (ns : List Node) (r s : Ref) → r ≡ s → IsFolded (term_at ns s.index) → IsFolded (term_at ns r.index)
+named_folded_by ns r s e h = subst (λ (t : Ref). IsFolded (term_at ns t.index)) (sym e) h
 
--- a node over them has folded operands
-pub operator_folded : (ns : List Node) (table : List Ref) (op : Op) (x y d : Ref) (n : Node) → n ≡ nodes.Apply op x y → IsNodeAt (length table) n → HasFoldedFor ns table n
-    → HasFoldedOperands (term_of (terms_of ns) (nodes.Apply op (get_or table x.index d) (get_or table y.index d)))
-operator_folded ns table op x y d n e h are =
-    let inside : (x.index < length table) × (y.index < length table) = subst (IsNodeAt (length table)) e h in
-    let each : IsFoldedFor ns table x.index × IsFoldedFor ns table y.index = subst (HasFoldedFor ns table) e are in
-    (each.0 (get_or table x.index d) (slice_get-get_or table x.index d inside.0), each.1 (get_or table y.index d) (slice_get-get_or table y.index d inside.1))
+named_folded : (ns : List Node) (to : ℕ → Ref) (place : ℕ) (r : Ref) → r ≡ to place → IsFoldedFor ns to place → IsFolded (term_at ns r.index)
+named_folded ns to place r e h = named_folded_by ns r (to place) e h
 
-pub choice_folded : (ns : List Node) (table : List Ref) (c x y d : Ref) (n : Node) → n ≡ nodes.Ite c x y → IsNodeAt (length table) n → HasFoldedFor ns table n
-    → HasFoldedOperands (term_of (terms_of ns) (nodes.Ite (get_or table c.index d) (get_or table x.index d) (get_or table y.index d)))
-choice_folded ns table c x y d n e h are =
-    let inside : (c.index < length table) × (x.index < length table) × (y.index < length table) = subst (IsNodeAt (length table)) e h in
-    let each : IsFoldedFor ns table c.index × IsFoldedFor ns table x.index × IsFoldedFor ns table y.index = subst (HasFoldedFor ns table) e are in (
-      each.0 (get_or table c.index d) (slice_get-get_or table c.index d inside.0),
-      each.1 (get_or table x.index d) (slice_get-get_or table x.index d inside.1),
-      each.2 (get_or table y.index d) (slice_get-get_or table y.index d inside.2),
-    )
+-- a node over what stands for its operands, all of it folded
+pub operator_folded : (ns : List Node) (to : ℕ → Ref) (op : Op) (x y s t : Ref) (n : Node) → n ≡ nodes.Apply op x y → s ≡ to x.index → t ≡ to y.index → HasFoldedFor ns to n → HasFoldedOperands (term_of (terms_of ns) (nodes.Apply op s t))
+operator_folded ns to op x y s t n e f g are =
+    let each : HasFoldedFor ns to (nodes.Apply op x y) = subst (HasFoldedFor ns to) e are in
+    (named_folded ns to x.index s f (each x.index (inl refl)), named_folded ns to y.index t g (each y.index (inr refl)))
+
+pub choice_folded : (ns : List Node) (to : ℕ → Ref) (c x y r s t : Ref) (n : Node) → n ≡ nodes.Ite c x y → r ≡ to c.index → s ≡ to x.index → t ≡ to y.index → HasFoldedFor ns to n → HasFoldedOperands (term_of (terms_of ns) (nodes.Ite r s t))
+choice_folded ns to c x y r s t n e d f g are =
+    let each : HasFoldedFor ns to (nodes.Ite c x y) = subst (HasFoldedFor ns to) e are in
+    (named_folded ns to c.index r d (each c.index (inl refl)), named_folded ns to x.index s f (each x.index (inr (inl refl))), named_folded ns to y.index t g (each y.index (inr (inr refl))))
 
 -- one more place, after more nodes
-pub AreFolded-step : (old new : List Node) (marks : List Bool) (table more : List Ref) (place : ℕ) (r : Ref) → AreSimpler old table → AreFolded old marks table → Extends old new → place ≡ length table → more ≡ table ++ r ∷ []
-    → (IsMarked marks place → IsFolded (term_at new r.index)) → AreFolded new marks more
-AreFolded-step old new marks table more place r are folded e last is one k m s at =
-    let within : k < length table + 1 = omega (arith, slice_get_within more k s at, ap length is, length_push table r) in
-    let here : get_or (table ++ r ∷ []) k s ≡ s = rw (← is) (get_or_from_slice_get more k s s at) in
-    elim (cases_lt k (length table)) [
-      | inl below ↦
-          let same : s ≡ get_or table k s = sym here ∙ get_or_append_left table (r ∷ []) s k below in
-          let was : slice_get table k ≡ Some s = slice_get_read table (length table) k s refl below same in
-          subst IsFolded (sym (term_at-extends old new s.index e (are k s was).stands)) (folded k m s was)
-      | inr above ↦
-          let at_end : k ≡ length table = omega (arith, within, above) in
-          let same : r ≡ s = sym (get_or_push table r s k (sym at_end)) ∙ here in
-          subst (λ (t : Ref). IsFolded (term_at new t.index)) same (one (subst (IsMarked marks) (at_end ∙ sym last) m))
-    ]
+pub AreFolded-step : {S : Type 0} → (first old new : List Node) (needed : List ℕ) (i : ℕ) (table more : HashMap ℕ Ref S) (place : ℕ) (r : Ref) → AreInOrder first needed → AreSimpler old (length first) (simpler_in table) → AreFolded old (simpler_in table) (take i needed) → Extends old new
+    → ((k : ℕ) → get nat_eq more k ≡ cond (nat_eq place k) (Some r) (get nat_eq table k)) → take (i + 1) needed ≡ take i needed ++ place ∷ [] → IsFolded (term_at new r.index) → AreFolded new (simpler_in more) (take (i + 1) needed)
+AreFolded-step first old new needed i table more place r order are folded e up next one k among = elim (at_place table more place r up k) [
+  | inl here ↦ named_folded_by new (simpler_in more k) r here.1 one
+  | inr other ↦ named_folded_by new (simpler_in more k) (simpler_in table k) other.1 (elim (among_push (take i needed) place k (subst (λ (l : List ℕ). IsAmong l k) next among)) [
+    | inl same ↦ absurd (other.0 same)
+    | inr was ↦ subst IsFolded (sym (term_at-extends old new (simpler_in table k).index e (are k (in_order_within first needed i k order was)).stands)) (folded k was)
+  ])
+]
 
--- the node at a place that is marked has folded operands in the table
-pub at_marked : (first old : List Node) (marks : List Bool) (table : List Ref) (place : ℕ) (r : Ref) (new : List Node) → AreMarkedFrom first marks 0 → Extends first old → place < length first → AreFolded old marks table
-    → (IsMarked marks place → (n : Node) → slice_get old place ≡ Some n → HasFoldedFor old table n → IsFolded (term_at new r.index)) → IsMarked marks place → IsFolded (term_at new r.index)
-at_marked first old marks table place r new closed e h folded one m =
+-- the operands of a node that is needed have folded terms standing for them
+pub at_needed : (first old new : List Node) (to : ℕ → Ref) (needed : List ℕ) (i place : ℕ) (r : Ref) → AreInOrder first needed → slice_get needed i ≡ Some place → Extends first old → AreFolded old to (take i needed)
+    → ((n : Node) → slice_get old place ≡ Some n → HasFoldedFor old to n → IsFolded (term_at new r.index)) → IsFolded (term_at new r.index)
+at_needed first old new to needed i place r order at e folded one =
+    let here = order i place at in
     let n = get_or first place (nodes.Konst 0) in
-    let there : slice_get first place ≡ Some n = slice_get-get_or first place (nodes.Konst 0) h in
-    let longer : place < length old = omega (arith, h, length-extends first old e) in
-    let same : n ≡ get_or old place n = sym (ap (λ (ns : List Node). get_or ns place n) e.1 ∙ (get_or_append_left first e.0 n place h ∙ get_or_from_slice_get first place n n there)) in
-    one m n (slice_get_read old (length old) place n refl longer same) (operands_folded old marks table n folded (closed place n (omega arith) m there))
+    let there : slice_get first place ≡ Some n = slice_get-get_or first place (nodes.Konst 0) here.0 in
+    let longer : place < length old = omega (arith, here.0, length-extends first old e) in
+    let same : n ≡ get_or old place n = sym (ap (λ (ns : List Node). get_or ns place n) e.1 ∙ (get_or_append_left first e.0 n place here.0 ∙ get_or_from_slice_get first place n n there)) in
+    one n (slice_get_read old (length old) place n refl longer same) (λ k op. folded k (here.1 n there k op))

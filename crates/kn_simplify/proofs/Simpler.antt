@@ -1,18 +1,18 @@
 -- Terms that may stand for others, and tables of them.
-use Rattle.std.proofs.Common.{◌≡◌, ℕ, ◌+◌, ◌<◌, ◌≤◌, List, [], ◌∷◌, ◌++◌, length, get_or, refl, sym, ap, subst, ◌∙◌, arith, inl, inr}
-use Rattle.std.specs.Prelude.{◌⊎◌, Result, Ok, Err, IfOk}
-use Rattle.std.proofs.lemmas.Bool.{cases_lt}
-use Rattle.std.proofs.lemmas.List.{get_or_append_left, get_or_push, length_push}
-use Rattle.std.proofs.lemmas.Option.{slice_get_within, slice_get_read, slice_get-get_or, get_or_from_slice_get}
+use Rattle.std.proofs.Common.{◌≡◌, ℕ, ◌<◌, ◌≤◌, Bool, true, false, cond, List, length, Some, refl, sym, ap, subst, ◌∙◌, arith, inl, inr}
+use Rattle.std.specs.Prelude.{◌⊎◌, Option, Result, Ok, Err, IfOk, nat_eq, unwrap_or}
+use Rattle.std.specs.Map.{lookup}
+use Rattle.std.specs.HashMap.{HashMap, get, IsEmpty}
+use Rattle.std.proofs.lemmas.Bool.{eqb-true, eq-eqb}
 use Rattle.kn_built.specs.Built.{Extends}
 use Rattle.kn_word.specs.declared.Op.{Op}
 use Rattle.kn_term.specs.declared.node.Node.{Node}
-use Rattle.kn_term.specs.declared.node.Node.TheVariants.{Apply as ApplyNode, Ite}
+use Rattle.kn_term.specs.declared.node.Node.TheVariants.{Konst, Input, Apply as ApplyNode, Ite}
 use Rattle.kn_term.specs.declared.node.Ref.{Ref}
 use Rattle.kn_term.specs.Terms.{Term, Apply, Choice, ev, Reads}
 use Rattle.kn_term.specs.Nodes.{term_at, term_of, terms_of, IsNodeAt}
 use Rattle.kn_term.proofs.Kept.{term_at-extends, nodes-extends}
-use Rattle.kn_simplify.specs.Simpler.{StandsFor, IsSimpler, AreSimpler}
+use Rattle.kn_simplify.specs.Simpler.{StandsFor, IsSimpler, AreSimpler, simpler_in}
 
 -- a term may stand for itself
 pub for_same : (s t : Term) → s ≡ t → StandsFor s t
@@ -51,55 +51,57 @@ IsSimpler-extends old new place r e h is = record {
   term = for_twice _ _ _ (for_same _ _ (term_at-extends old new r.index e is.stands)) (for_twice _ _ _ is.term (for_same _ _ (sym (term_at-extends old new place e h))));
 }
 
--- the term at a place may stand for itself
-pub itself : (ns : List Node) (place : ℕ) (r : Ref) → r.index ≡ place → place < length ns → IsSimpler ns place r
-itself ns place r e h = record { stands = omega (arith, e, h); term = for_same _ _ (ap (term_at ns) e) }
+-- each place stands for itself where a table has nothing
+pub AreSimpler-none : {S : Type 0} → (ns : List Node) (table : HashMap ℕ Ref S) → IsEmpty table → AreSimpler ns (length ns) (simpler_in table)
+AreSimpler-none ns table none place h =
+    let same : simpler_in table place ≡ record { index = place } = ap (λ (es : List (ℕ × Ref)). unwrap_or (lookup (nat_eq place) es) (record { index = place })) none in
+    subst (IsSimpler ns place) (sym same) (record { stands = h; term = for_same _ _ refl })
 
-pub AreSimpler-none : (ns : List Node) → AreSimpler ns []
-AreSimpler-none ns place r is = absurd (omega (arith, slice_get_within [] place r is))
+pub AreSimpler-extends : (old new : List Node) (count : ℕ) (to : ℕ → Ref) → Extends old new → count ≤ length old → AreSimpler old count to → AreSimpler new count to
+AreSimpler-extends old new count to e h are place within = IsSimpler-extends old new place (to place) e (omega (arith, h, within)) (are place within)
 
-pub AreSimpler-extends : (old new : List Node) (table : List Ref) → Extends old new → length table ≤ length old → AreSimpler old table → AreSimpler new table
-AreSimpler-extends old new table e h are place r is =
-    IsSimpler-extends old new place r e (omega (arith, h, slice_get_within table place r is)) (are place r is)
+-- a place has something else in a table from now on
+pub at_place : {S : Type 0} → (old new : HashMap ℕ Ref S) (place : ℕ) (r : Ref) → ((k : ℕ) → get nat_eq new k ≡ cond (nat_eq place k) (Some r) (get nat_eq old k)) → (k : ℕ) → ((k ≡ place) × (simpler_in new k ≡ r)) ⊎ ((k ≡ place → ⊥) × (simpler_in new k ≡ simpler_in old k))
+at_place old new place r up k = go (nat_eq place k) refl where
+  there : (b : Bool) → nat_eq place k ≡ b → simpler_in new k ≡ unwrap_or (cond b (Some r) (get nat_eq old k)) (record { index = k })
+  there b e = ap (λ (o : Option Ref). unwrap_or o (record { index = k })) (up k ∙ ap (λ (c : Bool). cond c (Some r) (get nat_eq old k)) e)
 
--- one more place
-pub AreSimpler-push : (ns : List Node) (table more : List Ref) (place : ℕ) (r : Ref) → AreSimpler ns table → IsSimpler ns place r → place ≡ length table → more ≡ table ++ r ∷ [] → AreSimpler ns more
-AreSimpler-push ns table more place r are one last e k s is =
-    let within : k < length table + 1 = omega (arith, slice_get_within more k s is, ap length e, length_push table r) in
-    let here : get_or (table ++ r ∷ []) k s ≡ s = rw (← e) (get_or_from_slice_get more k s s is) in
-    elim (cases_lt k (length table)) [
-      | inl below ↦
-          let same : s ≡ get_or table k s = sym here ∙ get_or_append_left table (r ∷ []) s k below in
-          are k s (slice_get_read table (length table) k s refl below same)
-      | inr above ↦
-          let at_end : k ≡ length table = omega (arith, within, above) in
-          let same : r ≡ s = sym (get_or_push table r s k (sym at_end)) ∙ here in
-          subst (λ (t : Ref). IsSimpler ns k t) same (subst (λ (j : ℕ). IsSimpler ns j r) (last ∙ sym at_end) one)
-    ]
+  go : (b : Bool) → nat_eq place k ≡ b → ((k ≡ place) × (simpler_in new k ≡ r)) ⊎ ((k ≡ place → ⊥) × (simpler_in new k ≡ simpler_in old k))
+  go true e = inl (sym (eqb-true place k e), there true e)
+  go false e = inr ((λ same. let wrong : false ≡ true = sym e ∙ eq-eqb place k (sym same) in absurd cc), there false e)
 
--- what a table says of an operand
-operand_at : (ns : List Node) (table : List Ref) (place : ℕ) (d : Ref) → AreSimpler ns table → place < length table → IsSimpler ns place (get_or table place d)
-operand_at ns table place d are h = are place (get_or table place d) (slice_get-get_or table place d h)
+-- one more place, after more nodes
+pub AreSimpler-step : {S : Type 0} → (first old new : List Node) (table more : HashMap ℕ Ref S) (place : ℕ) (r : Ref) → AreSimpler old (length first) (simpler_in table) → Extends first old → Extends old new → IsSimpler new place r
+    → ((k : ℕ) → get nat_eq more k ≡ cond (nat_eq place k) (Some r) (get nat_eq table k)) → AreSimpler new (length first) (simpler_in more)
+AreSimpler-step first old new table more place r are e f one up k h = elim (at_place table more place r up k) [
+  | inl here ↦ subst (IsSimpler new k) (sym here.1) (subst (λ (j : ℕ). IsSimpler new j r) (sym here.0) one)
+  | inr other ↦ subst (IsSimpler new k) (sym other.1) (AreSimpler-extends old new (length first) (simpler_in table) f (nodes-extends first old e) are k h)
+]
 
--- a node over what a table says of its operands
-pub operator_over : (ns : List Node) (table : List Ref) (op : Op) (x y d : Ref) (n : Node) → n ≡ ApplyNode op x y → IsNodeAt (length table) n → AreSimpler ns table
-    → IsNodeAt (length ns) (ApplyNode op (get_or table x.index d) (get_or table y.index d))
-    × StandsFor (term_of (terms_of ns) (ApplyNode op (get_or table x.index d) (get_or table y.index d))) (term_of (terms_of ns) n)
-operator_over ns table op x y d n e h are =
-    let inside : (x.index < length table) × (y.index < length table) = subst (IsNodeAt (length table)) e h in
-    let p = operand_at ns table x.index d are inside.0 in
-    let q = operand_at ns table y.index d are inside.1 in
+-- a node over what may stand for its operands
+pub operator_over : (ns : List Node) (place : ℕ) (to : ℕ → Ref) (op : Op) (x y s t : Ref) (n : Node) → n ≡ ApplyNode op x y → s ≡ to x.index → t ≡ to y.index → IsNodeAt place n → AreSimpler ns place to
+    → IsNodeAt (length ns) (ApplyNode op s t) × StandsFor (term_of (terms_of ns) (ApplyNode op s t)) (term_of (terms_of ns) n)
+operator_over ns place to op x y s t n e f g h are =
+    let inside : (x.index < place) × (y.index < place) = subst (IsNodeAt place) e h in
+    let p : IsSimpler ns x.index s = subst (IsSimpler ns x.index) (sym f) (are x.index inside.0) in
+    let q : IsSimpler ns y.index t = subst (IsSimpler ns y.index) (sym g) (are y.index inside.1) in
     ((p.stands, q.stands), for_twice _ _ _ (for_operator op _ _ _ _ p.term q.term) (for_same _ _ (sym (ap (term_of (terms_of ns)) e))))
 
-pub choice_over : (ns : List Node) (table : List Ref) (c x y d : Ref) (n : Node) → n ≡ Ite c x y → IsNodeAt (length table) n → AreSimpler ns table
-    → IsNodeAt (length ns) (Ite (get_or table c.index d) (get_or table x.index d) (get_or table y.index d))
-    × StandsFor (term_of (terms_of ns) (Ite (get_or table c.index d) (get_or table x.index d) (get_or table y.index d))) (term_of (terms_of ns) n)
-choice_over ns table c x y d n e h are =
-    let inside : (c.index < length table) × (x.index < length table) × (y.index < length table) = subst (IsNodeAt (length table)) e h in
-    let o = operand_at ns table c.index d are inside.0 in
-    let p = operand_at ns table x.index d are inside.1 in
-    let q = operand_at ns table y.index d are inside.2 in
+pub choice_over : (ns : List Node) (place : ℕ) (to : ℕ → Ref) (c x y r s t : Ref) (n : Node) → n ≡ Ite c x y → r ≡ to c.index → s ≡ to x.index → t ≡ to y.index → IsNodeAt place n → AreSimpler ns place to
+    → IsNodeAt (length ns) (Ite r s t) × StandsFor (term_of (terms_of ns) (Ite r s t)) (term_of (terms_of ns) n)
+choice_over ns place to c x y r s t n e d f g h are =
+    let inside : (c.index < place) × (x.index < place) × (y.index < place) = subst (IsNodeAt place) e h in
+    let o : IsSimpler ns c.index r = subst (IsSimpler ns c.index) (sym d) (are c.index inside.0) in
+    let p : IsSimpler ns x.index s = subst (IsSimpler ns x.index) (sym f) (are x.index inside.1) in
+    let q : IsSimpler ns y.index t = subst (IsSimpler ns y.index) (sym g) (are y.index inside.2) in
     ((o.stands, p.stands, q.stands), for_twice _ _ _ (for_choice _ _ _ _ _ _ o.term p.term q.term) (for_same _ _ (sym (ap (term_of (terms_of ns)) e))))
+
+-- a word or an input is over nothing
+pub word_over : (ns : List Node) (place w : ℕ) (n : Node) → n ≡ Konst w → IsNodeAt place n → IsNodeAt (length ns) (Konst w) × StandsFor (term_of (terms_of ns) (Konst w)) (term_of (terms_of ns) n)
+word_over ns place w n e h = (subst (IsNodeAt place) e h, for_same _ _ (ap (term_of (terms_of ns)) (sym e)))
+
+pub input_over : (ns : List Node) (place m k width : ℕ) (n : Node) → n ≡ Input m k width → IsNodeAt place n → IsNodeAt (length ns) (Input m k width) × StandsFor (term_of (terms_of ns) (Input m k width)) (term_of (terms_of ns) n)
+input_over ns place m k width n e h = (subst (IsNodeAt place) e h, for_same _ _ (ap (term_of (terms_of ns)) (sym e)))
 
 -- two facts on what a call gives
 pub if_both : {X Y : Type 0} (r : Result X Y) (P Q R : X → Type 0) → ((x : X) → P x → Q x → R x) → IfOk r P → IfOk r Q → IfOk r R
@@ -114,14 +116,9 @@ named old new place t r h e for is stands = record {
   term = for_twice _ _ _ (for_same _ _ is) (for_twice _ _ _ for (for_same _ _ (sym (term_at-extends old new place e h))));
 }
 
--- one more place, after more nodes
-pub AreSimpler-step : (old new : List Node) (table more : List Ref) (place : ℕ) (r : Ref) → AreSimpler old table → Extends old new → length table ≤ length old → IsSimpler new place r → place ≡ length table → more ≡ table ++ r ∷ [] → AreSimpler new more
-AreSimpler-step old new table more place r are e h one last is =
-    AreSimpler-push new table more place r (AreSimpler-extends old new table e h are) one last is
-
--- what the table says of a place whose term was there before
-pub settled : (old new : List Node) (table : List Ref) (place : ℕ) (r : Ref) → AreSimpler new table → Extends old new → place < length old → place < length table → r ≡ get_or table place r
+-- what a table says of a place whose term was there before
+pub settled : (old new : List Node) (to : ℕ → Ref) (place : ℕ) (r : Ref) → AreSimpler new (length old) to → Extends old new → place < length old → r ≡ to place
     → (r.index < length new) × StandsFor (term_at new r.index) (term_at old place)
-settled old new table place r are e h within is =
-    let one : IsSimpler new place r = are place r (slice_get_read table (length table) place r refl within is) in
+settled old new to place r are e h is =
+    let one : IsSimpler new place r = subst (IsSimpler new place) (sym is) (are place h) in
     (one.stands, for_twice _ _ _ one.term (for_same _ _ (term_at-extends old new place e h)))

@@ -1,12 +1,12 @@
 -- Terms in which no constant is left to fold.
-use Rattle.std.specs.Prelude.{ℕ, ◌≡◌, ◌⊎◌, ◌≤◌, Bool, true, List, slice_get, slice_index_or, nat_eq, false, Some}
+use Rattle.std.specs.Prelude.{ℕ, ◌≡◌, ◌⊎◌, Bool, true, false, List, nat_eq}
 use Rattle.kn_word.specs.declared.Op.{Op}
 use Rattle.kn_word.specs.declared.Op.TheVariants as ops
 use Rattle.kn_term.specs.declared.node.Node.{Node}
-use Rattle.kn_term.specs.declared.node.Node.TheVariants as nodes
 use Rattle.kn_term.specs.declared.node.Ref.{Ref}
 use Rattle.kn_term.specs.Terms.{Term, Word, Input, Apply, Choice}
 use Rattle.kn_term.specs.Nodes.{term_at}
+use Rattle.kn_term.specs.Reached.{IsOperand, IsAmong}
 
 -- a term is a word
 abbrev pub IsWord : Term → Type 0
@@ -66,32 +66,14 @@ HasFoldedOperands (Input n k width) = Unit {0}
 HasFoldedOperands (Apply op x y) = IsFolded x × IsFolded y
 HasFoldedOperands (Choice c x y) = IsFolded c × IsFolded x × IsFolded y
 
--- a place is marked
-abbrev pub IsMarked : List Bool → ℕ → Type 0
-IsMarked marks place = slice_index_or marks place false ≡ true
+-- what stands for a place is folded
+abbrev pub IsFoldedFor : List Node → (ℕ → Ref) → ℕ → Type 0
+IsFoldedFor ns to place = IsFolded (term_at ns (to place).index)
 
--- the places of a node's operands are marked
-abbrev pub HasMarkedOperands : List Bool → Node → Type 0
-HasMarkedOperands marks (nodes.Konst w) = Unit {0}
-HasMarkedOperands marks (nodes.Input n k width) = Unit {0}
-HasMarkedOperands marks (nodes.Apply op x y) = IsMarked marks x.index × IsMarked marks y.index
-HasMarkedOperands marks (nodes.Ite c x y) = IsMarked marks c.index × IsMarked marks x.index × IsMarked marks y.index
+-- what stands for a node's operands is folded
+abbrev pub HasFoldedFor : List Node → (ℕ → Ref) → Node → Type 0
+HasFoldedFor ns to n = (place : ℕ) → IsOperand n place → IsFoldedFor ns to place
 
--- from a place on, the operands of marked nodes are marked
-abbrev pub AreMarkedFrom : List Node → List Bool → ℕ → Type 0
-AreMarkedFrom ns marks first = (place : ℕ) (n : Node) → first ≤ place → IsMarked marks place → slice_get ns place ≡ Some n → HasMarkedOperands marks n
-
--- what a table has for a place is folded
-abbrev pub IsFoldedFor : List Node → List Ref → ℕ → Type 0
-IsFoldedFor ns table place = (r : Ref) → slice_get table place ≡ Some r → IsFolded (term_at ns r.index)
-
--- what a table has for a node's operands is folded
-abbrev pub HasFoldedFor : List Node → List Ref → Node → Type 0
-HasFoldedFor ns table (nodes.Konst w) = Unit {0}
-HasFoldedFor ns table (nodes.Input n k width) = Unit {0}
-HasFoldedFor ns table (nodes.Apply op x y) = IsFoldedFor ns table x.index × IsFoldedFor ns table y.index
-HasFoldedFor ns table (nodes.Ite c x y) = IsFoldedFor ns table c.index × IsFoldedFor ns table x.index × IsFoldedFor ns table y.index
-
--- what a table has for marked places is folded
-abbrev pub AreFolded : List Node → List Bool → List Ref → Type 0
-AreFolded ns marks table = (place : ℕ) → IsMarked marks place → IsFoldedFor ns table place
+-- what stands for these places is folded
+abbrev pub AreFolded : List Node → (ℕ → Ref) → List ℕ → Type 0
+AreFolded ns to places = (place : ℕ) → IsAmong places place → IsFoldedFor ns to place

@@ -1,5 +1,6 @@
 -- When one term may stand for another.
-use Rattle.std.specs.Prelude.{◌≡◌, ℕ, ◌<◌, List, length, slice_get, Some}
+use Rattle.std.specs.Prelude.{◌≡◌, ℕ, ◌<◌, List, length, nat_eq, unwrap_or}
+use Rattle.std.specs.HashMap.{HashMap, get}
 use Rattle.kn_term.specs.declared.node.Node.{Node}
 use Rattle.kn_term.specs.declared.node.Ref.{Ref}
 use Rattle.kn_term.specs.Terms.{Term, Word, Valuation, ev, Reads}
@@ -34,6 +35,10 @@ pub record IsSimpler (ns : List Node) (place : ℕ) (r : Ref) : Type 0 where
   pub stands : r.index < length ns
   pub term : StandsFor (term_at ns r.index) (term_at ns place)
 
--- for each place so far there is a Ref
-abbrev pub AreSimpler : List Node → List Ref → Type 0
-AreSimpler ns table = (place : ℕ) (r : Ref) → slice_get table place ≡ Some r → IsSimpler ns place r
+-- what a map has for a place, or the place itself
+abbrev pub simpler_in : {S : Type 0} → HashMap ℕ Ref S → ℕ → Ref
+simpler_in table place = unwrap_or (get nat_eq table place) (record { index = place })
+
+-- for each of so many places there is a Ref that may stand for it
+abbrev pub AreSimpler : List Node → ℕ → (ℕ → Ref) → Type 0
+AreSimpler ns count to = (place : ℕ) → place < count → IsSimpler ns place (to place)

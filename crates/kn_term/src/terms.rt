@@ -8,8 +8,8 @@ ghost use Rattle.kn_term.specs.Nodes.{term_at, term_of, terms_of, IsNodeAt, AreN
 
 use crate::block::Block;
 use crate::blocks::{joined, kept_blocks, node_at, put, shared_blocks};
+use crate::bring::bring;
 use crate::node::{Node, Ref};
-use crate::reached::bring;
 use crate::valuation::Valuation;
 use kn_word::{Op, apply};
 use std::alloc::{AllocError, Global};

@@ -1,6 +1,6 @@
 -- Reports on the node that fails where its input is not 0: which are given, and which are not.
-use Rattle.std.proofs.Common.{◌≡◌, inl, ℕ, zero, suc, ◌+◌, ◌<◌, Bool, true, false, cond, List, [], ◌∷◌, ◌++◌, map, Some, refl, sym, ap, subst, ◌∙◌, arith}
-use Rattle.std.specs.Prelude.{Contains, slice_get, slice_index_or, nat_eq, take, drop}
+use Rattle.std.proofs.Common.{◌≡◌, ◌⊎◌, inl, inr, ℕ, zero, suc, ◌+◌, ◌<◌, Bool, true, false, cond, List, [], ◌∷◌, ◌++◌, map, Some, refl, sym, ap, subst, ◌∙◌, arith}
+use Rattle.std.specs.Prelude.{Contains, slice_get, slice_index_or, nat_eq, nat_lt, ◌&&◌, take, drop}
 use Rattle.std.specs.List.{AllByRecursion}
 use Rattle.kn_model.specs.Terms.{Term, Word, Input, Valuation, terms}
 use Rattle.kn_model.specs.Nodes.{Node, Running, Failed, Assert}
@@ -9,17 +9,29 @@ use Rattle.kn_model.specs.Conditions.{Condition, Query, StandsFor, that, that_wi
 use Rattle.kn_cond.specs.declared.standing.Standing.{Standing}
 use Rattle.kn_cond.specs.declared.standing.Standing.TheVariants.{Inputs, Open}
 use Rattle.kn_model.specs.Concrete.{concrete}
+use Rattle.kn_built.specs.Picks.{picks}
+use Rattle.kn_term.specs.Valuations.{precedes}
 use Rattle.kn_model.specs.Cores.{HasImpossible}
-use Rattle.kn_model.specs.Reports.{Report, StateLine, FailureLine, Reach, At, Undecided, Nowhere, ends, IsLine, Names, all_picks, pick_name, NodeIn, AllOwnsOf, IsQuery, ReachIs, IsFailure, IsFailedState, Gives}
+use Rattle.kn_model.specs.Reports.{Report, StateLine, FailureLine, Reach, At, Undecided, Nowhere, ends, IsLine, Names, all_picks, pick_name, NodeIn, AllOwnsOf, IsQuery, MeetsPick, HasNoPick, HasFarQuery, pick_condition, ReachIs, IsFailure, IsFailedState, Gives}
 use Rattle.kn_worked.specs.Networks.{is, is_not, i, o}
 use Rattle.kn_worked.specs.Reports.{choosy, input, told, line, ReachedGiven, OpenGiven, OpenNotGiven, UndecidedNotGiven, NowhereNotGiven, StateNotLeast, FailureNotLeast, NoFailureLine}
-use Rattle.kn_model.proofs.Clashing.{and_false}
+use Rattle.std.proofs.lemmas.Bool.{ltb-true}
+use Rattle.kn_model.proofs.Clashing.{and_false, both, either}
 use Rattle.kn_model.proofs.Counting.{at_most}
+use Rattle.kn_model.proofs.FirstInputs.{least_is_first}
 use Rattle.kn_model.proofs.Implied.{all-contains}
 use Rattle.kn_model.proofs.JoinedQuery.{joined_query}
 use Rattle.kn_worked.proofs.OneHalf.{the_only}
 use Rattle.kn_worked.proofs.Pointing.{some_is, trace_is}
 use Rattle.kn_worked.proofs.Tried.{less_is, less_was}
+
+-- no input comes before the first one
+pub none_first : (n k : ℕ) → precedes n k 0 0 ≡ true → ⊥
+none_first n k e =
+    elim (either (nat_lt n 0) (nat_eq n 0 && nat_lt k 0) e) [
+      | inl less ↦ let below = ltb-true n 0 less in omega (arith, below)
+      | inr same ↦ let below = ltb-true k 0 (both (nat_eq n 0) (nat_lt k 0) same).1 in omega (arith, below)
+    ]
 
 -- ---- what the failed state asks
 
@@ -204,6 +216,50 @@ module _ (c : ℕ) where
       query = sym no_columns;
     }
 
+    -- what meets a pick with the failed state meets its condition
+    columns_are : (d : ℕ) (cs : List (List ℕ)) → slice_get report.dstates d ≡ Some cs → columns ≡ cs
+    columns_are zero cs e = some_is columns cs e
+    columns_are (suc d) cs e = absurd cc
+
+    pick_zero : (p : List ℕ) (k : ℕ) → k < 2 → slice_index_or ((0 ∷ []) ∷ (1 ∷ []) ∷ []) k p ≡ p → Contains p 0 → (0 ∷ []) ≡ p
+    pick_zero p zero h e c = e
+    pick_zero p (suc zero) h e c = absurd (let wrong = the_only 1 0 (subst (λ (q : List ℕ). Contains q 0) (sym e) c) in omega (arith, wrong))
+    pick_zero p (suc (suc k)) h e c = absurd (omega (arith, h))
+
+    pub meets_fails : (d : ℕ) (a : Valuation) → MeetsPick (choosy c) report d 0 a → holds a fails ≡ true
+    meets_fails d a m = by (members m.scenario m.named.member)
+      where
+        picks_are : Contains ((0 ∷ []) ∷ (1 ∷ []) ∷ []) m.pick
+        picks_are = subst (λ (cs : List (List ℕ)). Contains (picks cs) m.pick) (sym (columns_are d m.picked.0 m.picked.1)) m.picked.2
+
+        the_pick : (0 ∷ []) ≡ m.pick
+        the_pick = pick_zero m.pick picks_are.0 picks_are.1 picks_are.2 m.with
+
+        told_one : (k : ℕ) → member k ≡ m.scenario → slice_get (member k).nodes 0 ≡ Some (node k) → Told 0 (node k)
+        told_one k e there = told_at 0 (node k) (record {
+          line = failed_line;
+          is = refl;
+          dstate = d;
+          pick = m.pick;
+          picked = m.picked;
+          with = subst (λ (p : List ℕ). slice_get p 0 ≡ Some 0) the_pick refl;
+          scenario = m.scenario;
+          named = m.named;
+          there = subst (λ (u : Scenario Term). slice_get u.nodes 0 ≡ Some (node k)) e there;
+        })
+
+        other_trace : (k : ℕ) → Told 0 (node k) → (node k).state.trace ≡ o ∷ i ∷ []
+        other_trace k (Failing e f) = sym (ap (λ (x : Node Term). x.state.trace) f)
+        other_trace k (Going e f) = absurd (omega (arith, e))
+
+        by : IsMember m.scenario → holds a fails ≡ true
+        by (Zeroth e) = let wrong : (o ∷ o ∷ []) ≡ (o ∷ i ∷ []) = other_trace 0 (told_one 0 e refl) in absurd cc
+        by (First e) = subst (λ (u : Scenario Term). holds a (pick_condition u.nodes) ≡ true) (sym e) m.meets
+        by (Second e) = let wrong : (i ∷ []) ≡ (o ∷ i ∷ []) = other_trace 2 (told_one 2 e refl) in absurd cc
+
+    pub meets_failed : (a : Valuation) → holds a fails ≡ true → MeetsPick (choosy c) report 0 0 a
+    meets_failed a h = record { pick = 0 ∷ []; picked = (columns, refl, (0, omega arith, refl)); with = (0, omega arith, refl); scenario = member 1; named = failed_named; meets = h }
+
     pub query_is : (d : ℕ) (q : Query) → IsQuery (choosy c) report d 0 q → q ≡ that fails
     query_is d q is = is.query ∙ (ap (λ (cs : List (List Condition)). that_with is.own cs) (none is.others others) ∙ (ap (λ (x : Condition). that_with x []) own ∙ no_columns))
       where
@@ -218,16 +274,9 @@ module _ (c : ℕ) where
         none [] h = refl
         none (cs ∷ css) h = absurd h
 
-        whole : columns ≡ is.columns
-        whole = dstate_is d is.columns is.dstate
-          where
-            dstate_is : (d : ℕ) (cs : List (List ℕ)) → slice_get report.dstates d ≡ Some cs → columns ≡ cs
-            dstate_is zero cs e = some_is columns cs e
-            dstate_is (suc d) cs e = absurd cc
-
         others : AllOwnsOf (choosy c) report [] is.others
         others = subst (λ (n : ℕ). AllOwnsOf (choosy c) report (take n columns ++ drop (n + 1) columns) is.others) (of_zero 0 is.line (line_told 0 is.line is.is))
-            (subst (λ (cs : List (List ℕ)). AllOwnsOf (choosy c) report (take is.line.node cs ++ drop (is.line.node + 1) cs) is.others) (sym whole) is.others_are)
+            (subst (λ (cs : List (List ℕ)). AllOwnsOf (choosy c) report (take is.line.node cs ++ drop (is.line.node + 1) cs) is.others) (sym (columns_are d is.columns is.dstate)) is.others_are)
 
   -- ---- what is given
 
@@ -309,18 +358,26 @@ reached_given = gives_told 65536 (Inputs (input 1)) (At 0 (0 ∷ []) (input 1)) 
   scenario = member 65536 1;
   named = failed_named 65536 (Inputs (input 1)) (line (At 0 (0 ∷ []) (input 1)));
   meets = refl;
-  query = that fails;
-  is_query = the_query 65536 (Inputs (input 1)) (line (At 0 (0 ∷ []) (input 1)));
-  least = least_1;
+  least = record {
+    entries = (least_is_first fails (input 1) least_1).entries;
+    has = meets_failed 65536 (Inputs (input 1)) (line (At 0 (0 ∷ []) (input 1))) (input 1) refl;
+    first = λ b before m. (least_is_first fails (input 1) least_1).first b before (meets_fails 65536 (Inputs (input 1)) (line (At 0 (0 ∷ []) (input 1))) 0 b m);
+  };
   run = slice_index_or (concrete (choosy 65536) (input 1) 1) 0 (record { nodes = []; condition = [] });
   concrete_run = refl;
   shows = ((failed_line 65536 (Inputs (input 1)) (line (At 0 (0 ∷ []) (input 1))), refl, refl, refl), tt);
-  earlier = λ e q less. absurd (omega (arith, less));
+  earlier = λ e less. absurd (omega (arith, less));
 })
 
 pub open_given : OpenGiven
-open_given = gives_told 1 (Open 1) Undecided (refl, far_1)
-    ((0, (that fails, the_query 1 (Open 1) (line Undecided), far_1)), λ d q is. inl (subst (IsFar 1) (sym (query_is 1 (Open 1) (line Undecided) d q is)) far_1))
+open_given = gives_told 1 (Open 1) Undecided (refl, far_1) ((0, far), each)
+  where
+    far : HasFarQuery (choosy 1) (told (Open 1) (line Undecided)) 0 0
+    far = ((that fails, the_query 1 (Open 1) (line Undecided)), λ q is. subst (IsFar 1) (sym (query_is 1 (Open 1) (line Undecided) 0 q is)) far_1)
+
+    each : (d : ℕ) → HasFarQuery (choosy 1) (told (Open 1) (line Undecided)) d 0 ⊎ HasNoPick (choosy 1) (told (Open 1) (line Undecided)) d 0
+    each zero = inl far
+    each (suc d) = inr (λ a m. let none = m.picked.1 in absurd cc)
 
 -- ---- what is not
 
@@ -330,18 +387,18 @@ open_not_given gives = not_far (gives.standings 0 _ (node 2 1) refl (failed_in 2
 pub undecided_not_given : UndecidedNotGiven
 undecided_not_given gives =
     let far = gives.reaches.0.0 in
-    not_far (subst (IsFar 2) (query_is 2 (Inputs (input 1)) (line Undecided) far.0 far.1.0 far.1.1) far.1.2)
+    let query = far.1.0 in
+    not_far (subst (IsFar 2) (query_is 2 (Inputs (input 1)) (line Undecided) far.0 query.0 query.1) (far.1.1 query.0 query.1))
 
 pub nowhere_not_given : NowhereNotGiven
-nowhere_not_given gives = let wrong : true ≡ false = gives.reaches.0 0 (that fails) (the_query 65536 (Inputs (input 1)) (line Nowhere)) (input 1) in cc
+nowhere_not_given gives = gives.reaches.0 0 (input 1) (meets_failed 65536 (Inputs (input 1)) (line Nowhere) (input 1) refl)
 
 pub state_not_least : StateNotLeast
 state_not_least gives = not_least_2 (gives.standings 0 _ (node 65536 1) refl (failed_in 65536 (Inputs (input 2)) (line (At 0 (0 ∷ []) (input 1)))))
 
 pub failure_not_least : FailureNotLeast
 failure_not_least gives =
-    let reached = gives.reaches.0 in
-    not_least_2 (subst (λ (q : Query). IsLeast q (input 2)) (query_is 65536 (Inputs (input 1)) (line (At 0 (0 ∷ []) (input 2))) 0 reached.query reached.is_query) reached.least)
+    gives.reaches.0.least.first (input 1) (record { node = 0; index = 0; lower = omega arith; same = λ m j first. absurd (none_first m j first) }) (meets_failed 65536 (Inputs (input 1)) (line (At 0 (0 ∷ []) (input 2))) (input 1) refl)
 
 pub no_failure_line : NoFailureLine
 no_failure_line gives = let c = (gives.failures 0).1 (failed_line 65536 (Inputs (input 1)) [], refl, tt) in let none = c.1 in omega (arith, none)

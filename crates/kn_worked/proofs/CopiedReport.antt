@@ -1,14 +1,14 @@
 -- The report of four copies, of which two cannot be met, is given: one failure is nowhere, and one is reached.
 use Rattle.std.proofs.Common.{◌≡◌, ◌⊎◌, inl, inr, ℕ, zero, suc, ◌+◌, ◌<◌, Bool, true, false, List, [], ◌∷◌, ◌++◌, length, map, Some, refl, sym, ap, subst, ◌∙◌, arith}
-use Rattle.std.specs.Prelude.{Contains, slice_get, slice_index_or, nat_eq, not, ◌&&◌, ◌||◌, take, drop}
-use Rattle.kn_model.specs.Terms.{Term, Input, terms, ev, same_bit}
+use Rattle.std.specs.Prelude.{Contains, slice_get, slice_index_or, nat_eq, not, ◌&&◌, take, drop}
+use Rattle.kn_model.specs.Terms.{Term, Input, Valuation, terms, ev, same_bit}
 use Rattle.kn_model.specs.Nodes.{Node}
 use Rattle.kn_model.specs.Scenarios.{Scenario, name_of, node_at}
-use Rattle.kn_model.specs.Conditions.{Condition, Query, StandsFor, that, that_with, MeetsWith, ComesBefore, IsLeast, IsFar, IsImpossible}
+use Rattle.kn_model.specs.Conditions.{Condition, Query, StandsFor, that, that_with, holds, IsLeast, IsFar}
 use Rattle.kn_model.specs.Concrete.{concrete}
 use Rattle.kn_model.specs.Laws.{IsNet}
 use Rattle.kn_built.specs.Picks.{picks}
-use Rattle.kn_model.specs.Reports.{Report, StateLine, Reach, Undecided, Nowhere, ends, IsLine, Shows, Names, IsPick, all_picks, trace_at, pick_name, NodeIn, own_at, AllOwnsOf, IsQuery, IsReached, ReachIs, IsFailure, IsFailedState, Gives}
+use Rattle.kn_model.specs.Reports.{Report, StateLine, Reach, Undecided, Nowhere, ends, IsLine, Shows, Names, IsPick, all_picks, trace_at, pick_name, NodeIn, own_at, AllOwnsOf, IsQuery, MeetsPick, HasNoPick, pick_condition, IsReached, ReachIs, IsFailure, IsFailedState, Gives}
 use Rattle.kn_worked.specs.Networks.{is, is_not, i, o}
 use Rattle.kn_worked.specs.Reports.{crossing, copied_told, input, sender, passing, failing, NowhereGiven, NowhereNotOpen}
 use Rattle.kn_model.proofs.LeastInputs.{forced_is_least}
@@ -17,7 +17,6 @@ use Rattle.kn_worked.proofs.OneHalf.{the_only}
 use Rattle.kn_model.proofs.Lists.{of_map}
 use Rattle.kn_worked.proofs.Pointing.{some_is}
 use Rattle.kn_model.proofs.Rising.{names_distinct}
-use Rattle.kn_worked.proofs.Tried.{less_was}
 
 good : IsNet crossing
 good = record { delays = (omega arith, tt); timers = ((tt, (tt, (tt, (tt, tt)))), ((tt, (tt, (tt, tt))), tt)) }
@@ -269,50 +268,41 @@ module _ (second : Reach) where
       alone ((c ∷ (c' ∷ cs)) ∷ css) h = absurd h.0.1
       alone ((c ∷ []) ∷ (cs ∷ css)) h = absurd h.1
 
-  node_in : (d : ℕ) (n k : ℕ) (l : StateLine) → d < 4 → slice_get report.dstates d ≡ Some (columns d) → IsLine report k l → l.node ≡ n → slice_get (pick d) n ≡ Some k → slice_get (member d).nodes n ≡ Some (node d n) → NodeIn crossing report k (node d n)
-  node_in d n k l h c e f g y = record {
-    line = l;
-    is = e;
-    dstate = d;
-    pick = pick d;
-    picked = (columns d, c, (0, omega arith, refl));
-    with = ap (slice_get (pick d)) f ∙ g;
-    scenario = member d;
-    named = names_at d h;
-    there = ap (slice_get (member d).nodes) f ∙ y;
-  }
+  -- ---- what meets a pick
 
-  the_query : (d : ℕ) → d < 4 → slice_get report.dstates d ≡ Some (columns d) → IsLine report (suc (d + d)) failing → IsLine report (d + d) (line (d + d)) → IsQuery crossing report d (suc (d + d)) (asked (node d 1).state.own (node d 0).state.own)
-  the_query d h c e f = record {
-    line = failing;
-    is = e;
-    columns = columns d;
-    dstate = c;
-    column = suc (d + d) ∷ [];
-    of = refl;
-    in_column = (0, omega arith, refl);
-    own = (node d 1).state.own;
-    own_is = (node d 1, node_in d 1 (suc (d + d)) failing h c e refl refl (ap (λ (ys : List (Node Term)). slice_get ys 1) (two_nodes d h)), refl);
-    others = ((node d 0).state.own ∷ []) ∷ [];
-    others_are = (((node d 0, node_in d 0 (d + d) (line (d + d)) h c f (nodes_of d h).0 refl (ap (λ (ys : List (Node Term)). slice_get ys 0) (two_nodes d h)), refl), tt), tt);
-    query = refl;
-  }
+  -- the member of a pick with a state, and the condition of its nodes
+  meets_in : (d k : ℕ) (a : Valuation) → MeetsPick crossing report d k a → ((k ≡ d + d) ⊎ (k ≡ suc (d + d))) × (holds a (pick_condition (member d).nodes) ≡ true)
+  meets_in d k a m =
+      let p = pick_is d m.pick m.picked in
+      let n = named_is d p.0 in
+      let name : name_of (member d) ≡ name_of m.scenario = sym n.1 ∙ (ap (pick_name report) p.1 ∙ shows_name report m.pick m.scenario.nodes m.named.shows) in
+      let same : member d ≡ m.scenario = one_by_name crossing 2 (member d) m.scenario good n.0 m.named.member name in
+      let c : Contains (pick d) k = subst (λ (q : List ℕ). Contains q k) (sym p.1) m.with in
+      (at c.0 c.1 c.2, subst (λ (u : Scenario Term). holds a (pick_condition u.nodes) ≡ true) (sym same) m.meets)
+    where
+      at : (n : ℕ) → n < 2 → slice_index_or (pick d) n k ≡ k → (k ≡ d + d) ⊎ (k ≡ suc (d + d))
+      at zero h e = inl (sym e)
+      at (suc zero) h e = inr (sym e)
+      at (suc (suc n)) h e = absurd (omega (arith, h))
+
+  place_is : (d k : ℕ) → (suc (k + k) ≡ d + d) ⊎ (suc (k + k) ≡ suc (d + d)) → d ≡ k
+  place_is d k (inl e) = absurd (omega (arith, e))
+  place_is d k (inr e) = omega (arith, e)
 
   -- the word cannot be 0 and not 0
-  pub cannot : IsImpossible (asked zero_there one)
+  pub cannot : (a : Valuation) → holds a (pick_condition (member 1).nodes) ≡ false
   cannot a = go (nat_eq (ev a (Input 0 0 1)) 0)
     where
-      go : (b : Bool) → (same_bit (not b) false && true) && (((same_bit (not b) true && true) || false) && true) ≡ false
+      go : (b : Bool) → (same_bit (not b) true && (same_bit (not b) false && true)) ≡ false
       go true = refl
       go false = refl
 
-  least_both : IsLeast (asked zero_there zero_there) []
-  least_both = record { given_words = 0 ∷ []; is = refl; meet = ((omega arith, tt), refl); least = before }
-    where
-      before : (ws : List ℕ) → MeetsWith (asked zero_there zero_there) ws → ComesBefore ws (0 ∷ []) → ⊥
-      before [] m e = m.0
-      before (w ∷ []) m e = let less = less_was w 0 e in omega (arith, less)
-      before (w ∷ (v ∷ ws)) m e = m.0.1
+  pub nowhere_met : (d : ℕ) → HasNoPick crossing report d 3
+  nowhere_met d a m =
+      let in_it = meets_in d 3 a m in
+      let second_one : d ≡ 1 = place_is d 1 in_it.0 in
+      let wrong : true ≡ false = sym (subst (λ (e : ℕ). holds a (pick_condition (member e).nodes) ≡ true) second_one in_it.1) ∙ cannot a in
+      cc
 
   fourth_reached : IsReached crossing report 7 3 (6 ∷ 7 ∷ []) []
   fourth_reached = record {
@@ -321,13 +311,15 @@ module _ (second : Reach) where
     scenario = member 3;
     named = names_at 3 (omega arith);
     meets = refl;
-    query = asked zero_there zero_there;
-    is_query = the_query 3 (omega arith) refl refl refl;
-    least = least_both;
+    least = record {
+      entries = tt;
+      has = record { pick = pick 3; picked = (columns 3, refl, (0, omega arith, refl)); with = (1, omega arith, refl); scenario = member 3; named = names_at 3 (omega arith); meets = refl };
+      first = λ b before m. let none = before.lower in omega (arith, none);
+    };
     run = slice_index_or (concrete crossing [] 2) 0 (record { nodes = []; condition = [] });
     concrete_run = refl;
     shows = ((sender i [], refl, refl, refl), ((failing, refl, refl, refl), tt));
-    earlier = λ e q less is. let same = (query_is e 3 q (omega arith) is).0 in absurd (omega (arith, less, same));
+    earlier = λ e less. inl (λ b m. let same = place_is e 3 (meets_in e 7 b m).0 in omega (arith, less, same));
   }
 
   pub gives_copies : ReachIs crossing report 3 second → Gives report crossing
@@ -347,10 +339,13 @@ module _ (second : Reach) where
   }
 
 pub nowhere_given : NowhereGiven
-nowhere_given = gives_copies Nowhere (λ d q is. subst IsImpossible (sym (query_is Nowhere d 1 q (omega arith) is).1) (cannot Nowhere))
+nowhere_given = gives_copies Nowhere (nowhere_met Nowhere)
 
 pub nowhere_not_open : NowhereNotOpen
-nowhere_not_open gives = let far = gives.reaches.0.0 in go (subst (IsFar 65536) (query_is Undecided far.0 1 far.1.0 (omega arith) far.1.1).1 far.1.2)
+nowhere_not_open gives =
+    let far = gives.reaches.0.0 in
+    let query = far.1.0 in
+    go (subst (IsFar 65536) (query_is Undecided far.0 1 query.0 (omega arith) query.1).1 (far.1.1 query.0 query.1))
   where
     go : IsFar 65536 (asked Undecided (is_not (Input 0 0 1) ∷ []) (is (Input 0 0 1) ∷ [])) → ⊥
     go far = far.large (omega arith)

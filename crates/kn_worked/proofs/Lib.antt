@@ -8,3 +8,4 @@ pub mod SentCore
 pub mod OverLimits
 pub mod Tried
 pub mod Pointing
+pub mod OtherPick

@@ -13,7 +13,7 @@ use Rattle.kn_model.specs.Alikes.{Alike}
 use Rattle.kn_model.specs.Replays.{record_of, SameSet, node_of, own_of}
 use Rattle.kn_model.specs.Cores.{Held, StateView, DstateView, IsSame, AreSameNodes, finished, picked, state_at, IsPlaced, FitsColumns, boxes}
 use Rattle.kn_worked.specs.Limits.{one_half}
-use Rattle.kn_worked.specs.Cores.{net, opening_core, one_side, unsent, OpeningStands, Crossed, Unsent, Doubled, Unplaced, NotLeast, Marked, NotDrawn, StoppedEarly, LeftOut}
+use Rattle.kn_worked.specs.Cores.{net, opening_core, one_side, unsent, OpeningStands, Crossed, Unsent, Doubled, Unplaced, NotLeast, Marked, NotDrawn, StoppedEarly, StoppedElsewhere, LeftOut}
 use Rattle.kn_model.proofs.AlikeTerms.{alike_self}
 use Rattle.kn_worked.proofs.LeastReport.{least_inputs}
 use Rattle.kn_model.proofs.Lists.{all-weaker, itself, of_map}
@@ -192,7 +192,10 @@ pub not_drawn : NotDrawn
 not_drawn core = let below = core.serials 0 _ _ refl refl in omega (arith, below)
 
 pub stopped_early : StoppedEarly
-stopped_early core = records_kept core.over
+stopped_early core = records_kept core.over.1
+
+pub stopped_elsewhere : StoppedElsewhere
+stopped_elsewhere core = let other : 1 ≡ 0 = core.over.0 in omega (arith, other)
 
 pub left_out : LeftOut
 left_out core =

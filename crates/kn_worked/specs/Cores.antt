@@ -76,6 +76,10 @@ NotDrawn = Stands (core_of (start_of (Inputs []) (Some (record { serial = 0; eve
 abbrev pub StoppedEarly : Type 0
 StoppedEarly = Stands (core_of (start 0 ∷ start 1 ∷ []) ((0 ∷ []) ∷ (1 ∷ []) ∷ []) ([] ∷ [] ∷ []) (Some (record { limit = Dstates; tick = 0 }))) → ⊥
 
+-- it stopped in another tick than its own
+abbrev pub StoppedElsewhere : Type 0
+StoppedElsewhere = Stands (core_of (start 0 ∷ start 1 ∷ []) ((0 ∷ []) ∷ (1 ∷ []) ∷ []) ([] ∷ [] ∷ []) (Some (record { limit = Dstates; tick = 1 }))) → ⊥
+
 -- one node that has branched once; the side of bit 1, which inputs meet, is left out
 abbrev pub one_side : CoreView
 one_side = of (cob terms (one_half 2) 1)

@@ -6,7 +6,7 @@ use Rattle.kn_model.specs.Nodes.{Running, Failed, Assert}
 use Rattle.kn_model.specs.Nets.{Network}
 use Rattle.kn_cond.specs.declared.standing.Standing.{Standing}
 use Rattle.kn_cond.specs.declared.standing.Standing.TheVariants.{Inputs, Open}
-use Rattle.kn_model.specs.Reports.{Report, StateLine, FailureLine, Reach, At, Undecided, Nowhere, Sds, Cob, Gives, IsSharp}
+use Rattle.kn_model.specs.Reports.{Report, StateLine, FailureLine, Reach, At, Undecided, Nowhere, Sds, Cob, Gives, IsReached, IsSharp}
 use Rattle.kn_worked.specs.Networks.{program, net_of, plain, link, early, i, o}
 use Rattle.kn_worked.specs.OneTick.{first_of, halves}
 
@@ -122,3 +122,39 @@ NowhereGiven = Gives (copied_told Nowhere) crossing
 -- so it is not open
 abbrev pub NowhereNotOpen : Type 0
 NowhereNotOpen = Gives (copied_told Undecided) crossing → ⊥
+
+-- node 0 has two inputs, and sends where the second one is 0; node 1 is sent that or nothing, and then fails by an assertion on 0
+abbrev pub two_ways : Network
+two_ways = net_of 3 (program (Some 0) None None (instrs.Input 0 1 ∷ instrs.Input 1 1 ∷ instrs.Brz 1 4 ∷ instrs.Jmp 5 ∷ instrs.Send 0 2 0 ∷ instrs.Brz 0 6 ∷ instrs.Ret ∷ [])
+    ∷ program (Some 0) (Some 2) (Some 3) (instrs.Timer 0 2 ∷ instrs.Ret ∷ instrs.Ret ∷ instrs.Assert 0 ∷ instrs.Ret ∷ []) ∷ []) (plain 0 ∷ plain 1 ∷ []) (link 0 1 1 ∷ [])
+
+-- that one of its inputs is 1
+abbrev pub only_input : ℕ → Valuation
+only_input k = record { node = 0; index = k; word = 1 } ∷ []
+
+-- node 0 after its two bits
+abbrev pub chose : Bool → Bool → Valuation → StateLine
+chose b c a = record { node = 0; trace = b ∷ c ∷ []; outcome = Running; standing = Inputs a }
+
+-- node 1 in one line, with the packet or without it
+abbrev pub either_way : StateLine
+either_way = record { node = 1; trace = i ∷ []; outcome = Failed Assert 3 2; standing = Inputs [] }
+
+-- dstate 0 has the two states of node 0 that have one input 1 and the other one 0: state 1 did not send, and state 2 did
+abbrev pub two_told : (pick : List ℕ) → Valuation → Report
+two_told pick a = record {
+  mapping = Sds;
+  ticks = 3;
+  nodes = 2;
+  states = chose o o (record { node = 0; index = 0; word = 1 } ∷ only_input 1) ∷ chose o i (only_input 1) ∷ chose i o (only_input 0) ∷ chose i i [] ∷ either_way ∷ [];
+  dstates = ((1 ∷ 2 ∷ []) ∷ (4 ∷ []) ∷ []) ∷ ((0 ∷ 3 ∷ []) ∷ (4 ∷ []) ∷ []) ∷ [];
+  failures = record { state = 4; reach = At 0 pick a } ∷ [];
+}
+
+-- the second input 1 alone meets the pick without the packet, and comes first
+abbrev pub FirstPickReached : Type 0
+FirstPickReached = IsReached two_ways (two_told (1 ∷ 4 ∷ []) (only_input 1)) 4 0 (1 ∷ 4 ∷ []) (only_input 1)
+
+-- the first input 1 alone meets the pick with the packet, and comes later: it is not given
+abbrev pub LaterPickNotGiven : Type 0
+LaterPickNotGiven = Gives (two_told (2 ∷ 4 ∷ []) (only_input 0)) two_ways → ⊥

@@ -1,6 +1,6 @@
 //! What a core stands for, on small cores.
 
-ghost use Rattle.kn_worked.specs.Cores.{OpeningStands, Crossed, Unsent, Doubled, Unplaced, NotLeast, Marked, NotDrawn, StoppedEarly, LeftOut, SentStands, OneForBoth, NotInInbox, OtherEvent};
+ghost use Rattle.kn_worked.specs.Cores.{OpeningStands, Crossed, Unsent, Doubled, Unplaced, NotLeast, Marked, NotDrawn, StoppedEarly, StoppedElsewhere, LeftOut, SentStands, OneForBoth, NotInInbox, OtherEvent};
 
 /// The opening core of two nodes that branch once stands.
 pub fn opening_stands()
@@ -38,8 +38,9 @@ pub fn columns()
     ensures unplaced { Unplaced }
 {}
 
-/// Nor where a serial was not drawn, or the limit that stopped it was kept.
+/// Nor where a serial was not drawn, or the limit that stopped it was kept, or is said of another tick.
 pub fn counts()
     ensures not_drawn { NotDrawn }
     ensures stopped { StoppedEarly }
+    ensures elsewhere { StoppedElsewhere }
 {}

@@ -17,53 +17,16 @@ use Rattle.kn_model.specs.Conditions.{Condition, Query, that, that_with, holds, 
 use Rattle.kn_cond.specs.declared.standing.Standing.TheVariants.{Inputs}
 use Rattle.kn_model.specs.Concrete.{node_under, scenario_under}
 use Rattle.kn_model.specs.Deciding.{IsPlain, clashes, forced, joined}
-use Rattle.kn_model.specs.Reports.{Report, StateLine, FailureLine, Reach, At, Nowhere, Names, all_picks, pick_name, trace_cmp, Gives, Shows, IsFailure, IsFailedState, Rises, own_at, OwnsOf, AllOwnsOf, IsQuery, pick_condition, RunShows, IsReached, ReachIs, singles}
+use Rattle.kn_model.specs.Reports.{Report, StateLine, FailureLine, Reach, At, Nowhere, Names, all_picks, pick_name, trace_cmp, Gives, Shows, IsFailure, IsFailedState, Rises, MeetsPick, pick_condition, RunShows, IsReached, ReachIs, singles}
+use Rattle.kn_model.proofs.Clashing.{clash_is_impossible}
+use Rattle.kn_model.proofs.LeastInputs.{forced_is_least}
+use Rattle.kn_model.proofs.FirstInputs.{least_is_first}
 use Rattle.netsym.specs.Shown.{states_of}
 use Rattle.std.specs.Cmp.Lexicographic.{slice_cmp}
 use Rattle.kn_built.specs.Picks.{picks}
 use Rattle.netsym.specs.Listing.{dstates_from, line_of, numbers, reach_of, failure_of, failures_in, failures_from}
-use Rattle.netsym.proofs.Numbered.{some_one, none_some, get_behind, get_map, map_get, get_less, get_some, contained_at, all_at, all_mapped, first_of, singles_at, one_of, all_contained, AreLong, at_numbers, at_singles, only, contains_at}
-use Rattle.netsym.proofs.Given.{IsListing, lists, state, Kept, kept_at, kept_of, is_member, pick_is, is_pick, all_names, rows_run, long_lists, names_kept, shows_kept, Found, found, line_is, same_place, same_node, node_found, node_in, line_at, N, r}
-
--- ---- columns of one state each
-
-abbrev alone : ℕ → List ℕ
-alone j = j ∷ []
-
-singles_split : (a b j : ℕ) → singles (a + suc b) j ≡ singles a j ++ ((j + a) ∷ []) ∷ singles b ((j + a) + 1)
-singles_split zero b j =
-    let n : zero + suc b ≡ suc b = omega arith in
-    let p : j ≡ j + zero = omega arith in
-    ap (λ k. singles k j) n ∙ ap (λ (k : ℕ). (k ∷ []) ∷ singles b (k + 1)) p
-singles_split (suc a) b j =
-    let n : suc a + suc b ≡ suc (a + suc b) = omega arith in
-    let p : (j + 1) + a ≡ j + suc a = omega arith in
-    ap (λ k. singles k j) n ∙ ap (λ (l : List (List ℕ)). (j ∷ []) ∷ l) (singles_split a b (j + 1) ∙ ap (λ (k : ℕ). singles a (j + 1) ++ (k ∷ []) ∷ singles b (k + 1)) p)
-
-singles_alone : (a j : ℕ) → singles a j ≡ map alone (numbers a j)
-singles_alone zero j = refl
-singles_alone (suc a) j = ap (λ (l : List (List ℕ)). (j ∷ []) ∷ l) (singles_alone a (j + 1))
-
-length-singles : (a j : ℕ) → length (singles a j) ≡ a
-length-singles zero j = refl
-length-singles (suc a) j = ap suc (length-singles a (j + 1))
-
--- the columns before and after one of them
-others_alone : (a b j : ℕ) → take a (singles (a + suc b) j) ++ drop (a + 1) (singles (a + suc b) j) ≡ map alone (numbers a j ++ numbers b ((j + a) + 1))
-others_alone a b j =
-    let front = singles a j in
-    let this : List (List ℕ) = ((j + a) ∷ []) ∷ [] in
-    let back = singles b ((j + a) + 1) in
-    let split : singles (a + suc b) j ≡ front ++ (this ++ back) = singles_split a b j in
-    let taken : take a (front ++ (this ++ back)) ≡ front = take_at front (this ++ back) a (length-singles a j) in
-    let longer : length (front ++ this) ≡ a + 1 = omega (arith, length-append front this, length-singles a j) in
-    let dropped : drop (a + 1) (front ++ (this ++ back)) ≡ back = ap (drop (a + 1)) (sym (append_assoc front this back)) ∙ drop_at (front ++ this) back (a + 1) longer in
-    ap (λ l. take a l ++ drop (a + 1) l) split
-    ∙ ap (λ l. l ++ drop (a + 1) (front ++ (this ++ back))) taken
-    ∙ ap (λ l. front ++ l) dropped
-    ∙ ap (λ l. l ++ back) (singles_alone a j)
-    ∙ ap (λ l. map alone (numbers a j) ++ l) (singles_alone b ((j + a) + 1))
-    ∙ sym (map-append alone (numbers a j) (numbers b ((j + a) + 1)))
+use Rattle.netsym.proofs.Numbered.{some_one, none_some, get_behind, get_map, map_get, get_less, get_some, contained_at, all_at, all_mapped, first_of, numbers_at, singles_at, one_of, all_contained, AreLong, at_numbers, at_singles, only, contains_at}
+use Rattle.netsym.proofs.Given.{IsListing, lists, state, Kept, kept_at, kept_of, is_member, pick_is, is_pick, named_is, all_names, rows_run, long_lists, names_kept, shows_kept, Found, found, line_is, same_place, same_node, node_found, node_in, line_at, N, r}
 
 -- ---- conditions that are joined
 
@@ -112,10 +75,6 @@ all_join : {A : Type 0} (P : A → Type 0) (xs ys : List A) → AllByRecursion P
 all_join P [] ys p q = q
 all_join P (x ∷ xs) ys p q = (p.0, all_join P xs ys p.1 q)
 
--- the own condition of a state as the one alternative of its column
-abbrev pub alternative : State Term → List Condition
-alternative s = s.own ∷ []
-
 -- what a valuation makes of nodes has their traces and outcomes
 run_shown : (r : Report) (a : Valuation) (p : List ℕ) (ys : List (Node Term)) → Shows r p ys → RunShows r p (map (node_under a) ys)
 run_shown r a [] [] w = tt
@@ -135,70 +94,12 @@ bool_same : (b : Bool) → bool_cmp b b ≡ Equal
 bool_same true = refl
 bool_same false = refl
 
--- How plain conditions of whole scenarios are decided.
-pub record Decides : Type 0 where
-  pub least : (c : Condition) → IsPlain c → clashes c ≡ false → IsLeast (that c) (forced c)
-  -- a state's own condition, with those of the states before and after it
-  pub joint_least : (before : List (State Term)) (s : State Term) (after : List (State Term)) → IsPlain (joined (before ++ (s ∷ after))) → clashes (joined (before ++ (s ∷ after))) ≡ false
-      → IsLeast (that_with s.own (map alternative (before ++ after))) (forced (joined (before ++ (s ∷ after))))
-  pub joint_never : (before : List (State Term)) (s : State Term) (after : List (State Term)) → clashes (joined (before ++ (s ∷ after))) ≡ true → IsImpossible (that_with s.own (map alternative (before ++ after)))
-
-module _ (net : Network) (ms : List (Scenario Term)) (h : IsListing net ms) (decides : Decides) where
+module _ (net : Network) (ms : List (Scenario Term)) (h : IsListing net ms) where
   abbrev R : Report
   R = r net ms h
 
   abbrev M : ℕ
   M = N net ms h
-
-  -- the states with these numbers have the own conditions of these states, and no others
-  abbrev OwnsAre : List ℕ → List (State Term) → Type 0
-  OwnsAre [] [] = Unit {0}
-  OwnsAre [] (s ∷ ss) = ⊥
-  OwnsAre (j ∷ js) [] = ⊥
-  OwnsAre (j ∷ js) (s ∷ ss) = (((c : Condition) → own_at c net R j → c ≡ s.own) × own_at s.own net R j) × OwnsAre js ss
-
-  owns_append : (js : List ℕ) (ss : List (State Term)) (js' : List ℕ) (ss' : List (State Term)) → OwnsAre js ss → OwnsAre js' ss' → OwnsAre (js ++ js') (ss ++ ss')
-  owns_append [] [] js' ss' p q = q
-  owns_append [] (s ∷ ss) js' ss' p q = absurd p
-  owns_append (j ∷ js) [] js' ss' p q = absurd p
-  owns_append (j ∷ js) (s ∷ ss) js' ss' p q = (p.0, owns_append js ss js' ss' p.1 q)
-
-  -- columns of these numbers have these alternatives, and no others
-  owns_only : (js : List ℕ) (ss : List (State Term)) (others : List (List Condition)) → OwnsAre js ss → AllOwnsOf net R (map alone js) others → others ≡ map alternative ss
-  owns_only [] [] [] p q = refl
-  owns_only [] [] (cs ∷ others) p q = absurd q
-  owns_only [] (s ∷ ss) others p q = absurd p
-  owns_only (j ∷ js) [] others p q = absurd p
-  owns_only (j ∷ js) (s ∷ ss) [] p q = absurd q
-  owns_only (j ∷ js) (s ∷ ss) (cs ∷ others) p q = ap (λ (l : List Condition). l ∷ others) (one cs q.0) ∙ ap (λ (l : List (List Condition)). alternative s ∷ l) (owns_only js ss others p.1 q.1)
-    where
-      one : (cs : List Condition) → OwnsOf net R (j ∷ []) cs → cs ≡ alternative s
-      one [] w = absurd w
-      one (c ∷ []) w = ap (λ (d : Condition). d ∷ []) (p.0.0 c w.0)
-      one (c ∷ d ∷ cs) w = absurd w.1
-
-  owns_there : (js : List ℕ) (ss : List (State Term)) → OwnsAre js ss → AllOwnsOf net R (map alone js) (map alternative ss)
-  owns_there [] [] p = tt
-  owns_there [] (s ∷ ss) p = absurd p
-  owns_there (j ∷ js) [] p = absurd p
-  owns_there (j ∷ js) (s ∷ ss) p = ((p.0.1, tt), owns_there js ss p.1)
-
-  -- the states behind a front of a scenario's states
-  owns_behind : (d : ℕ) (columns : List (List ℕ)) (k : Kept net ms h d columns) (front ss : List (State Term)) (j : ℕ) → states_of k.scenario ≡ front ++ ss → j ≡ first_of M 0 d + length front
-      → OwnsAre (numbers (length ss) j) ss
-  owns_behind d columns k front [] j e at = tt
-  owns_behind d columns k front (s ∷ ss) j e at =
-      let y = get_map state k.scenario.nodes (length front) s (ap (λ (l : List (State Term)). slice_get l (length front)) e ∙ get_behind front s ss) in
-      let f : Found net ms h j = record { d = d; n = length front; columns = columns; kept = k; node = y.0; there = y.1; is = at } in
-      let longer : j + 1 ≡ first_of M 0 d + length (front ++ (s ∷ [])) = omega (arith, at, length-append front (s ∷ [])) in (
-        (
-          λ c o.
-              let g = node_found net ms h j o.0 o.1 in
-              sym o.2 ∙ (ap node_own (sym g.1) ∙ (ap node_own (sym (same_node net ms h j j f g.0 refl)) ∙ ap own y.2)),
-          (y.0, node_in net ms h j f, ap own y.2),
-        ),
-        owns_behind d columns k (front ++ (s ∷ [])) ss (j + 1) (e ∙ sym (append_assoc front (s ∷ []) ss)) longer,
-      )
 
   -- ---- a state among those of its scenario
 
@@ -208,71 +109,6 @@ module _ (net : Network) (ms : List (Scenario Term)) (h : IsListing net ms) (dec
 
     abbrev this : State Term
     this = f.node.state
-
-    abbrev others : List (State Term)
-    others = before ++ after
-
-    count : M ≡ length before + suc (length after)
-    count = sym f.kept.whole ∙ (sym (length-map f.kept.scenario.nodes state) ∙ (ap length split ∙ length-append before (this ∷ after)))
-
-    js : List ℕ
-    js = numbers (length before) first ++ numbers (length after) ((first + length before) + 1)
-
-    other_owns : OwnsAre (numbers (length before) first ++ numbers (length after) ((first + length before) + 1)) others
-    other_owns =
-        let all = owns_behind f.d f.columns f.kept [] (before ++ (this ∷ after)) first split (omega arith) in
-        let back : (first + length before) + 1 ≡ first + length (before ++ (this ∷ [])) = omega (arith, length-append before (this ∷ [])) in
-        let rest = owns_behind f.d f.columns f.kept (before ++ (this ∷ [])) after ((first + length before) + 1) (split ∙ sym (append_assoc before (this ∷ []) after)) back in
-        owns_append (numbers (length before) first) before (numbers (length after) ((first + length before) + 1)) after (front before (this ∷ after) first all) rest
-      where
-        front : (xs ys : List (State Term)) (j : ℕ) → OwnsAre (numbers (length (xs ++ ys)) j) (xs ++ ys) → OwnsAre (numbers (length xs) j) xs
-        front [] ys j p = tt
-        front (x ∷ xs) ys j p = (p.0, front xs ys (j + 1) p.1)
-
-    -- the other columns of its dstate
-    columns_are : take f.n f.columns ++ drop (f.n + 1) f.columns ≡ map alone (numbers (length before) first ++ numbers (length after) ((first + length before) + 1))
-    columns_are =
-        ap (λ (l : List (List ℕ)). take f.n l ++ drop (f.n + 1) l) (f.kept.columns_are ∙ ap (λ (k : ℕ). singles k first) count)
-        ∙ (ap (λ (n : ℕ). take n (singles (length before + suc (length after)) first) ++ drop (n + 1) (singles (length before + suc (length after)) first)) place
-        ∙ others_alone (length before) (length after) first)
-
-    -- its one query
-    query_is : (e : ℕ) (q : Query) → IsQuery net R e i q → (e ≡ f.d) × (q ≡ that_with this.own (map alternative others))
-    query_is e q asked =
-        let k = kept_at net ms h e asked.columns asked.dstate in
-        let line = line_is net ms h i f asked.line asked.is in
-        let node : asked.line.node ≡ f.n = ap (λ (l : StateLine). l.node) line in
-        let column = singles_at M (first_of M 0 e) asked.line.node asked.column (ap (λ (l : List (List ℕ)). slice_get l asked.line.node) (sym k.columns_are) ∙ asked.of) in
-        let number : i ≡ first_of M 0 e + asked.line.node = sym (one_of (first_of M 0 e + asked.line.node) i (subst (λ (l : List ℕ). Contains l i) column.1 asked.in_column)) in
-        let y = get_some k.scenario.nodes asked.line.node (omega (arith, column.0, k.whole)) in
-        let g : Found net ms h i = record { d = e; n = asked.line.node; columns = asked.columns; kept = k; node = y.0; there = y.1; is = number } in
-        let same = same_place net ms h i i f g refl in
-        let mine = node_found net ms h i asked.own_is.0 asked.own_is.1 in
-        let own_is : asked.own ≡ this.own = sym asked.own_is.2 ∙ (ap node_own (sym mine.1) ∙ ap node_own (sym (same_node net ms h i i f mine.0 refl))) in
-        let columns : asked.columns ≡ f.columns = k.columns_are ∙ (ap (λ (d : ℕ). singles M (first_of M 0 d)) (sym same.0) ∙ sym f.kept.columns_are) in
-        let cut : take asked.line.node asked.columns ++ drop (asked.line.node + 1) asked.columns ≡ map alone (numbers (length before) first ++ numbers (length after) ((first + length before) + 1)) =
-        ap (λ (l : List (List ℕ)). take asked.line.node l ++ drop (asked.line.node + 1) l) columns ∙ (ap (λ (n : ℕ). take n f.columns ++ drop (n + 1) f.columns) node ∙ columns_are) in
-        let rest = owns_only (numbers (length before) first ++ numbers (length after) ((first + length before) + 1)) others asked.others other_owns (subst (λ (l : List (List ℕ)). AllOwnsOf net R l asked.others) cut asked.others_are) in
-        (sym same.0, asked.query ∙ (ap (λ (c : Condition). that_with c asked.others) own_is ∙ ap (that_with this.own) rest))
-
-    is_query : IsQuery net R f.d i (that_with this.own (map alternative others))
-    is_query =
-        let line = ap (slice_get R.states) f.is ∙ line_at net ms h f.d f.n f.columns f.kept f.node f.there in
-        let less : f.n < M = (let here = get_less f.kept.scenario.nodes f.n f.node f.there in omega (arith, here, f.kept.whole)) in
-        record {
-          line = line_of f.n this;
-          is = line;
-          columns = f.columns;
-          dstate = f.kept.there;
-          column = (first + f.n) ∷ [];
-          of = ap (λ (l : List (List ℕ)). slice_get l f.n) f.kept.columns_are ∙ at_singles M first f.n less;
-          in_column = subst (λ (j : ℕ). Contains ((first + f.n) ∷ []) j) (sym f.is) (only (first + f.n));
-          own = this.own;
-          own_is = (f.node, node_in net ms h i f, refl);
-          others = map alternative others;
-          others_are = subst (λ (l : List (List ℕ)). AllOwnsOf net R l (map alternative others)) (sym columns_are) (owns_there (numbers (length before) first ++ numbers (length after) ((first + length before) + 1)) others other_owns);
-          query = refl;
-        }
 
     -- its whole scenario
     abbrev all : List (State Term)
@@ -284,33 +120,55 @@ module _ (net : Network) (ms : List (Scenario Term)) (h : IsListing net ms) (dec
         let nodes = all_at (λ (s : Scenario Term). AllByRecursion (λ (y : Node Term). IsPlain y.state.own) s.nodes) ms f.d f.kept.scenario h.plain f.kept.member in
         plain_joined all (subst (AllByRecursion (λ (s : State Term). IsPlain s.own)) split (all_mapped (λ (y : Node Term). IsPlain y.state.own) (λ (s : State Term). IsPlain s.own) state (λ y p. p) f.kept.scenario.nodes nodes))
 
+    -- what meets a pick with it meets the joined condition of its scenario, and the pick is that of its dstate
+    meets_joined : (e : ℕ) (a : Valuation) → MeetsPick net R e i a → (e ≡ f.d) × (holds a (joined all) ≡ true)
+    meets_joined e a m =
+        let k = kept_at net ms h e m.picked.0 m.picked.1 in
+        let pick = pick_is net ms h e m.picked.0 k m.pick m.picked.2 in
+        let scenario : m.scenario ≡ k.scenario = named_is net ms h e m.picked.0 k m.scenario (subst (λ (p : List ℕ). Names net R p m.scenario) pick m.named) in
+        let at = contained_at (numbers M (first_of M 0 e)) i (subst (λ (p : List ℕ). Contains p i) pick m.with) in
+        let number = numbers_at M (first_of M 0 e) at.0 i at.1 in
+        let y = get_some k.scenario.nodes at.0 (omega (arith, number.0, k.whole)) in
+        let g : Found net ms h i = record { d = e; n = at.0; columns = m.picked.0; kept = k; node = y.0; there = y.1; is = number.1 } in
+        let same = same_place net ms h i i f g refl in
+        let one : k.scenario ≡ f.kept.scenario = some_one k.scenario f.kept.scenario (sym k.member ∙ ap (slice_get ms) (sym same.0) ∙ f.kept.member) in
+        let whole : pick_condition m.scenario.nodes ≡ joined all =
+            ap (λ (s : Scenario Term). pick_condition s.nodes) scenario ∙ ap (λ (s : Scenario Term). pick_condition s.nodes) one ∙ pick_is_joined f.kept.scenario.nodes ∙ ap joined split in
+        (sym same.0, ap (holds a) (sym whole) ∙ m.meets)
+
     reached : clashes (joined all) ≡ false → IsReached net R i f.d (numbers M first) (forced (joined all))
     reached sure =
         let a = forced (joined all) in
-        let own_least = decides.least (joined all) plain_whole sure in
+        let own_least = forced_is_least (joined all) plain_whole sure in
         let meets : holds a (joined all) ≡ true = ap (λ (b : Valuation). holds b (joined all)) own_least.is ∙ own_least.meet.1 in
         let whole : holds a (pick_condition f.kept.scenario.nodes) ≡ true = ap (holds a) (pick_is_joined f.kept.scenario.nodes ∙ ap joined split) ∙ meets in
         let less : f.n < M = (let here = get_less f.kept.scenario.nodes f.n f.node f.there in omega (arith, here, f.kept.whole)) in
+        let picked = is_pick net ms h f.d f.columns f.kept in
+        let with : Contains (numbers M first) i = subst (λ (j : ℕ). Contains (numbers M first) j) (sym f.is) (contains_at (numbers M first) f.n (first + f.n) (at_numbers M first f.n less)) in
+        let named = names_kept net ms h f.d f.columns f.kept in
+        let only_least = least_is_first (joined all) a own_least in
         record {
-          picked = is_pick net ms h f.d f.columns f.kept;
-          with = subst (λ (j : ℕ). Contains (numbers M first) j) (sym f.is) (contains_at (numbers M first) f.n (first + f.n) (at_numbers M first f.n less));
+          picked = picked;
+          with = with;
           scenario = f.kept.scenario;
-          named = names_kept net ms h f.d f.columns f.kept;
+          named = named;
           meets = whole;
-          query = that_with this.own (map alternative others);
-          is_query = is_query;
-          least = decides.joint_least before this after plain_whole sure;
+          least = record {
+            entries = only_least.entries;
+            has = record { pick = numbers M first; picked = picked; with = with; scenario = f.kept.scenario; named = named; meets = whole };
+            first = λ b before m. only_least.first b before (meets_joined f.d b m).1;
+          };
           run = scenario_under a f.kept.scenario;
           concrete_run = h.runs f.kept.scenario a (is_member net ms h f.d f.columns f.kept) whole;
           shows = run_shown R a (numbers M first) f.kept.scenario.nodes (shows_kept net ms h f.d f.columns f.kept);
-          earlier = λ e q less asked. let same = (query_is e q asked).0 in absurd (omega (arith, same, less));
+          earlier = λ e less. inl (λ b m. let same = (meets_joined e b m).0 in omega (arith, same, less));
         }
 
     pub reach_is : ReachIs net R i (reach_of M f.d first (joined all))
     reach_is = go (clashes (joined all)) refl
       where
         go : (b : Bool) → clashes (joined all) ≡ b → ReachIs net R i (cond b Nowhere (At f.d (numbers M first) (forced (joined all))))
-        go true e = λ d q asked. subst IsImpossible (sym (query_is d q asked).1) (decides.joint_never before this after e)
+        go true e = λ d a m. let wrong : true ≡ false = sym (meets_joined d a m).1 ∙ clash_is_impossible (joined all) e a in cc
         go false e = reached e
 
   -- ---- all failure lines
@@ -544,7 +402,7 @@ module _ (net : Network) (ms : List (Scenario Term)) (h : IsListing net ms) (dec
         let clear = all_at (λ (z : Node Term). clashes z.state.own ≡ false) f.0.kept.scenario.nodes f.0.n f.0.node sure f.0.there in
         subst (λ (l : StateLine). StandsFor net.limits.conflicts (that y.state.own) l.standing) (sym (line_is net ms h i f.0 line e))
         (subst (λ (z : Node Term). StandsFor net.limits.conflicts (that y.state.own) (Inputs (forced z.state.own))) (sym f.1)
-        (decides.least y.state.own (subst (λ (z : Node Term). IsPlain z.state.own) f.1 plain) (subst (λ (z : Node Term). clashes z.state.own ≡ false) f.1 clear)));
+        (forced_is_least y.state.own (subst (λ (z : Node Term). IsPlain z.state.own) f.1 plain) (subst (λ (z : Node Term). clashes z.state.own ≡ false) f.1 clear)));
     failures = λ i. (λ c. all_contained (IsFailedState R) (map number (failures_from M 0 0 (lists ms))) i (states_failed (failures_from M 0 0 (lists ms)) failures_hold) c, failed_listed i);
     in_order = (in_order_from 0 0 (lists ms) (long_lists net ms h.whole)).0;
     reaches = reaches_hold (failures_from M 0 0 (lists ms)) failures_hold;

@@ -12,15 +12,11 @@ use Rattle.kn_model.specs.Terms.{Term}
 use Rattle.kn_model.specs.Nodes.{State, Node}
 use Rattle.kn_model.specs.Nets.{Network}
 use Rattle.kn_model.specs.Scenarios.{Scenario, name_of}
-use Rattle.kn_model.specs.Conditions.{Condition, Query, that, that_with, IsLeast, IsImpossible}
-use Rattle.kn_model.specs.Deciding.{IsPlain, clashes, forced, joined, none_clashes}
+use Rattle.kn_model.specs.Deciding.{IsPlain, clashes, none_clashes}
 use Rattle.kn_model.specs.Cores.{HasImpossible}
 use Rattle.kn_model.specs.Reports.{ends, trace_cmp, Rises, Gives}
 use Rattle.kn_model.specs.Laws.{IsNet}
 use Rattle.kn_model.proofs.Clashing.{both, not_true, clash_is_impossible}
-use Rattle.kn_model.proofs.LeastInputs.{forced_is_least}
-use Rattle.kn_model.proofs.JoinedQuery.{alone, all_of}
-use Rattle.kn_model.proofs.Swapping.{one_and_others}
 use Rattle.kn_model.proofs.Implied.{run_ends_as_member}
 use Rattle.kn_model.proofs.Named.{one_by_name}
 use Rattle.kn_model.proofs.Naming.{have_nodes}
@@ -32,50 +28,7 @@ use Rattle.netsym.specs.Ordered.{name_in, name_cmp}
 use Rattle.netsym.proofs.Sorting.{all_moved, moved_back}
 use Rattle.netsym.proofs.Ordered.{kept_rise}
 use Rattle.netsym.proofs.Given.{IsListing, lists, names_of_lists}
-use Rattle.netsym.proofs.Failing.{Decides, alternative, report_given}
-
--- ---- plain conditions are decided
-
-abbrev own : State Term → Condition
-own s = s.own
-
-alternatives_alone : (ss : List (State Term)) → map alternative ss ≡ alone (map own ss)
-alternatives_alone [] = refl
-alternatives_alone (s ∷ ss) = ap (λ (l : List (List Condition)). alternative s ∷ l) (alternatives_alone ss)
-
-joined_all : (ss : List (State Term)) → joined ss ≡ all_of (map own ss)
-joined_all [] = refl
-joined_all (s ∷ ss) = flat_map-cons own s ss ∙ ap (λ (c : Condition). s.own ++ c) (joined_all ss)
-
-get_behind_or : (xs : List Condition) (c d : Condition) (ys : List Condition) → get_or (xs ++ (c ∷ ys)) (length xs) d ≡ c
-get_behind_or [] c d ys = refl
-get_behind_or (x ∷ xs) c d ys = get_behind_or xs c d ys
-
--- a state's own condition with those of the others as columns of one alternative each: the condition of all of them
-whole_query : (before : List (State Term)) (s : State Term) (after : List (State Term)) → that_with s.own (map alternative (before ++ after)) ≡ that (joined (before ++ (s ∷ after)))
-whole_query before s after =
-    let front = map own before in
-    let back = map own after in
-    let cs = front ++ (s.own ∷ back) in
-    let n = length front in
-    let inside : n < length cs = omega (arith, length-append front (s.own ∷ back)) in
-    let this : get_or cs n [] ≡ s.own = get_behind_or front s.own [] back in
-    let taken : take n cs ≡ front = take_at front (s.own ∷ back) n refl in
-    let dropped : drop (n + 1) cs ≡ back = ap (drop (n + 1)) (sym (append_assoc front (s.own ∷ []) back)) ∙ drop_at (front ++ (s.own ∷ [])) back (n + 1) (length-append front (s.own ∷ [])) in
-    let others : alone (take n cs ++ drop (n + 1) cs) ≡ map alternative (before ++ after) =
-    ap alone (ap (λ l. l ++ drop (n + 1) cs) taken ∙ ap (λ l. front ++ l) dropped ∙ sym (map-append own before after)) ∙ sym (alternatives_alone (before ++ after)) in
-    let all : all_of cs ≡ joined (before ++ (s ∷ after)) = ap all_of (sym (map-append own before (s ∷ after))) ∙ sym (joined_all (before ++ (s ∷ after))) in
-    ap (that_with s.own) (sym others)
-    ∙ ap (λ (c : Condition). that_with c (alone (take n cs ++ drop (n + 1) cs))) (sym this)
-    ∙ one_and_others cs n inside
-    ∙ ap that all
-
-pub plain_decides : Decides
-plain_decides = record {
-  least = forced_is_least;
-  joint_least = λ before s after plain sure. subst (λ (q : Query). IsLeast q (forced (joined (before ++ (s ∷ after))))) (sym (whole_query before s after)) (forced_is_least (joined (before ++ (s ∷ after))) plain sure);
-  joint_never = λ before s after clash. subst IsImpossible (sym (whole_query before s after)) (clash_is_impossible (joined (before ++ (s ∷ after))) clash);
-}
+use Rattle.netsym.proofs.Failing.{report_given}
 
 -- ---- the scenarios in which no own condition clashes
 
@@ -183,4 +136,4 @@ kept_given net good xs same sorted plain =
     let ms = back.0 in
     let are : lists ms ≡ xs = back.2 in
     let rises = subst (Rises name_cmp) (names_of_lists ms) (subst (λ l. Rises name_cmp (map name_in l)) (sym are) (kept_rise net good xs same sorted)) in
-    subst (λ l. Gives (report_of net l) net) are (report_given net ms (listing_of net ms good back.1 (subst ArePlain (sym are) plain) rises) plain_decides)
+    subst (λ l. Gives (report_of net l) net) are (report_given net ms (listing_of net ms good back.1 (subst ArePlain (sym are) plain) rises))

@@ -1,6 +1,5 @@
 pub mod Plans
 pub mod Shown
-pub mod TermCode
 pub mod Views
 pub mod Letters
 pub mod Sending

@@ -1,35 +1,49 @@
 //! The program netsym: the real words, standard input and standard output for the library's top call.
 #![tactic(auto)]
 
-ghost use Rattle.std.specs.Prelude.{◌≡◌, ◌⊎◌, IfOk, map, string_bytes};
-ghost use Rattle.std.specs.Io.KnownBytes.{Appends};
-ghost use Rattle.kn_io.specs.Causes.{Rose};
-ghost use Rattle.netsym.specs.Runs.{memory_line, words_of};
+ghost use Rattle.std.specs.Prelude.{◌≡◌, ◌⊎◌, IfOk, IfErr, map, drop, string_bytes};
+ghost use Rattle.std.specs.IoError.{error_kind};
+ghost use Rattle.std.specs.Vec.Iter.{into_iter_items};
+ghost use Rattle.netsym.specs.Runs.{IsCommand, words_of};
+ghost use Rattle.netsym.specs.Statuses.{code_of};
 ghost use Rattle.netsym.specs.declared.status.Status.TheVariants as statuses;
+ghost use Rattle.netsym_main.specs.Calls.{IsRefusal, IsUntouched, IsCall};
 
-use kn_io::{Sink, StdSink, StdSource, write_all};
+use kn_io::{Sink, Source, StdSink, StdSource};
 use netsym::{Status, run_alone};
 use std::alloc::{AllocError, Global};
-use std::env;
-use std::io::ErrorKind;
+use std::env::{self, Args};
+use std::io::{self, ErrorKind};
 use std::process::ExitCode;
 
-/// The words after the program's name. Where one is not UTF-8 there are none, and so no command line. Err is want of
-/// memory.
-fn texts_of(rt: &HostRuntime) -> Result<Vec<String>, AllocError> {
-    let mut texts = Vec::new(rt.alloc());
-    let args = match env::args(rt) {
-        Ok(args) => args,
-        Err(error) if error.kind() == ErrorKind::OutOfMemory => return Err(AllocError),
-        Err(_) => return Ok(texts),
-    };
-    for arg in args.skip(1) {
-        texts.push(arg)?;
+/// The exit status where the system refuses the words, and not for want of memory. No call of the library ends with it.
+const REFUSED_WORD: u8 = 9;
+
+/// The exit status where the system gives no words: 6 for want of memory, and 9 for another cause, such as a word that is
+/// not UTF-8.
+fn refusal(error: &io::Error) -> u8
+    ensures { IsRefusal (error_kind error.now ≡ ErrorKind.OutOfMemory) result }
+{
+    if error.kind() == ErrorKind::OutOfMemory {
+        Status::Memory.code()
+    } else {
+        REFUSED_WORD
+    }
+}
+
+/// The words after the program's name. Err is want of memory.
+fn texts_after_name(alloc: Global, mut args: Args) -> Result<Vec<String>, AllocError>
+    ensures { IfOk result (λ v. v.items ≡ drop 1 (into_iter_items args)) }
+{
+    let _name = args.next();
+    let mut texts = Vec::new(alloc);
+    for text in args {
+        texts.push(text)?;
     }
     Ok(texts)
 }
 
-/// The words as texts that the top call takes.
+/// The words as texts that the top call takes. Err is want of memory.
 fn word_slices(alloc: Global, texts: &[String]) -> Result<Vec<&str>, AllocError>
     ensures { IfOk result (λ v. words_of v.items ≡ map string_bytes texts.now) }
 {
@@ -40,28 +54,46 @@ fn word_slices(alloc: Global, texts: &[String]) -> Result<Vec<&str>, AllocError>
     Ok(words)
 }
 
-/// Says that memory for the words was wanting. The answer is the status of that, or of a write fault.
-fn without_words<K: Sink>(sink: &mut K) -> Status
-    ensures status { (result ≡ statuses.Memory) ⊎ (result ≡ statuses.WriteFault) }
-    ensures whole { result ≡ statuses.Memory → Appends (K.taken sink.old) (K.taken sink.new) memory_line }
-    ensures cause { result ≡ statuses.WriteFault → Rose (K.faults sink.old) (K.faults sink.new) }
+/// The exit status of the library's call with these words. Where memory for them is wanting it is 6, nothing is called,
+/// and so nothing read or written.
+fn called<S: Source, K: Sink>(alloc: Global, texts: &[String], source: &mut S, sink: &mut K) -> u8
+    ensures ends { ((result ≡ code_of statuses.Memory) × IsUntouched source.old source.new sink.old sink.new) ⊎ IsCall (map string_bytes texts.now) (S.left source.old) (S.left source.new) (S.faults source.old) (S.faults source.new) (K.taken sink.old) (K.taken sink.new) (K.faults sink.old) (K.faults sink.new) result }
+    ensures unread { (IsCommand (map string_bytes texts.now) → ⊥) → source.new ≡ source.old }
 {
-    match write_all(sink, b"netsym: out of memory\n") {
-        Ok(()) => Status::Memory,
-        Err(_) => Status::WriteFault,
-    }
+    let Ok(words) = word_slices(alloc, texts) else {
+        return Status::Memory.code();
+    };
+    run_alone(alloc, &words, source, sink).code()
+}
+
+/// The exit status for what the system answers where it is asked for the program's words: that of the library's call with
+/// the words after the program's name. Where there are no words, nothing is called, and so nothing read or written.
+fn exit_status<S: Source, K: Sink>(
+    alloc: Global,
+    args: io::Result<Args>,
+    source: &mut S,
+    sink: &mut K,
+) -> u8
+    // Where the system gives no words.
+    ensures refused { IfErr args (λ e. IsRefusal (error_kind e ≡ ErrorKind.OutOfMemory) result × IsUntouched source.old source.new sink.old sink.new) }
+
+    // Where it gives them.
+    ensures ends { IfOk args (λ all. ((result ≡ code_of statuses.Memory) × IsUntouched source.old source.new sink.old sink.new) ⊎ IsCall (map string_bytes (drop 1 (into_iter_items all))) (S.left source.old) (S.left source.new) (S.faults source.old) (S.faults source.new) (K.taken sink.old) (K.taken sink.new) (K.faults sink.old) (K.faults sink.new) result) }
+    ensures unread { IfOk args (λ all. (IsCommand (map string_bytes (drop 1 (into_iter_items all))) → ⊥) → source.new ≡ source.old) }
+{
+    let args = match args {
+        Ok(args) => args,
+        Err(error) => return refusal(&error),
+    };
+    let Ok(texts) = texts_after_name(alloc, args) else {
+        return Status::Memory.code();
+    };
+    called(alloc, &texts, source, sink)
 }
 
 /// Calls the library with the words after the program's name, and ends with its status.
 fn main(rt: HostRuntime) -> ExitCode {
-    let alloc = rt.alloc();
     let mut source = StdSource::new(rt.stdin());
     let mut sink = StdSink::new(rt.stdout());
-    let Ok(texts) = texts_of(&rt) else {
-        return ExitCode::from(without_words(&mut sink).code());
-    };
-    let Ok(words) = word_slices(alloc, &texts) else {
-        return ExitCode::from(without_words(&mut sink).code());
-    };
-    ExitCode::from(run_alone(alloc, &words, &mut source, &mut sink).code())
+    ExitCode::from(exit_status(rt.alloc(), env::args(&rt), &mut source, &mut sink))
 }

@@ -31,7 +31,7 @@ pub struct NodeNow {
 
 impl Model for NodeNow {
     ghost use Rattle.std.specs.Coded.{codes};
-    ghost use Rattle.netsym.specs.TermCode.{term_code};
+    ghost use Rattle.kn_term.specs.TermCode.{term_code};
     ghost use Rattle.netsym.specs.Keeping.{Seen};
 
     ghost Value = { Seen };
@@ -124,7 +124,7 @@ impl Model for NetworkCopy {
     ghost use Rattle.std.specs.Prelude.{List, map};
     ghost use Rattle.std.specs.Arc.{arc_value};
     ghost use Rattle.std.specs.Coded.{codes};
-    ghost use Rattle.netsym.specs.TermCode.{term_code};
+    ghost use Rattle.kn_term.specs.TermCode.{term_code};
     ghost use Rattle.netsym.specs.Keeping.{Seen};
 
     ghost Value = { List Seen };

@@ -40,7 +40,7 @@ impl Model for Mail {
     ghost use Rattle.std.specs.Coded.{codes};
     ghost use Rattle.kn_model.specs.Terms.{Term};
     ghost use Rattle.kn_model.specs.Packets.{Packet};
-    ghost use Rattle.netsym.specs.TermCode.{term_code};
+    ghost use Rattle.kn_term.specs.TermCode.{term_code};
     ghost use Rattle.netsym.specs.Letters.{packet_with};
 
     ghost Value = { Packet Term };

@@ -42,7 +42,7 @@ impl Model for PathTaken {
     ghost use Rattle.kn_model.specs.Paths.{Path};
     ghost use Rattle.netsym.specs.Views.{literal_of};
     ghost use Rattle.std.specs.Coded.{codes};
-    ghost use Rattle.netsym.specs.TermCode.{term_code};
+    ghost use Rattle.kn_term.specs.TermCode.{term_code};
 
     ghost Value = { Path Term };
 

@@ -23,7 +23,7 @@ impl Model for Scenario {
     ghost use Rattle.kn_model.specs.Terms.{Term};
     ghost use Rattle.kn_model.specs.Nodes.{State};
     ghost use Rattle.std.specs.Coded.{codes};
-    ghost use Rattle.netsym.specs.TermCode.{term_code};
+    ghost use Rattle.kn_term.specs.TermCode.{term_code};
     ghost use Rattle.netsym.specs.Keeping.{states_in};
 
     ghost Value = { List (State Term) };

@@ -53,7 +53,7 @@ impl Model for NodeState {
     ghost use Rattle.kn_model.specs.Nodes.{State};
     ghost use Rattle.netsym.specs.Views.{term_of, literal_of, outcome_of, state_with};
     ghost use Rattle.std.specs.Coded.{codes};
-    ghost use Rattle.netsym.specs.TermCode.{term_code};
+    ghost use Rattle.kn_term.specs.TermCode.{term_code};
 
     ghost Value = { State Term };
 

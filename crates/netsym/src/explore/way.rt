@@ -37,7 +37,7 @@ impl Model for WaySoFar {
     ghost use Rattle.kn_model.specs.Rows.{Way};
     ghost use Rattle.netsym.specs.Views.{literal_of};
     ghost use Rattle.std.specs.Coded.{codes};
-    ghost use Rattle.netsym.specs.TermCode.{term_code};
+    ghost use Rattle.kn_term.specs.TermCode.{term_code};
 
     ghost Value = { Way Term };
 

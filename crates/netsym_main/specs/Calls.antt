@@ -1,0 +1,32 @@
+-- The exit status of the program.
+use Rattle.std.specs.Prelude.{◌≡◌, ◌≤◌, ℕ, List, Some}
+use Rattle.std.specs.declared.option.Option.{Option}
+use Rattle.kn_io.specs.Causes.{Rose}
+use Rattle.netsym.specs.declared.status.Status.{Status}
+use Rattle.netsym.specs.declared.status.Status.TheVariants as statuses
+use Rattle.netsym.specs.Statuses.{code_of}
+use Rattle.netsym.specs.Runs.{IsCommand, Runs}
+use Rattle.netsym.specs.Exact.{IsUsage, IsExact}
+
+-- where the system gives no words: the number of want of memory where that is the cause, and else 9, which is no status's
+pub record IsRefusal (WantsMemory : Type 0) (number : ℕ) : Type 0 where
+  pub memory : WantsMemory → number ≡ code_of statuses.Memory
+  pub other : (WantsMemory → ⊥) → number ≡ 9
+
+-- nothing was read and nothing was written
+pub record IsUntouched {S K : Type 0} (source source' : S) (sink sink' : K) : Type 0 where
+  pub unread : source' ≡ source
+  pub unwritten : sink' ≡ sink
+
+-- The number is that of the status with which the top call ends for these words, and all that the top call promises of
+-- its words, its source and its sink holds.
+pub record IsCall (words : List (List ℕ)) (left left' : Option (List ℕ)) (faults faults' : ℕ) (taken taken' : Option (List ℕ)) (flaws flaws' : ℕ) (number : ℕ) : Type 0 where
+  pub status : Status
+  pub number_is : number ≡ code_of status
+  pub runs : Runs words left left' faults faults' taken taken' status
+  pub reads : faults ≤ faults'
+  pub writes : flaws ≤ flaws'
+  pub read_fault : status ≡ statuses.ReadFault → Rose faults faults'
+  pub write_fault : status ≡ statuses.WriteFault → Rose flaws flaws'
+  pub usage : IsUsage words status
+  pub exact : (bytes : List ℕ) → left ≡ Some bytes → IsCommand words → IsExact bytes status
