@@ -1,2 +1,4 @@
 -- The lemmas on verdicts.
 pub mod Ranks
+pub mod Stating
+pub mod Making

@@ -1,3 +1,5 @@
 -- The definitions of formulas and verdicts.
 pub mod Formulas
+pub mod Wholes
 pub mod Orders
+pub mod Verdicts

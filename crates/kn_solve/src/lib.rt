@@ -1,2 +1,10 @@
 //! Questions on the inputs of a network, and what the search answers.
 #![tactic(auto)]
+
+mod asking;
+mod formula;
+mod whole;
+
+pub use asking::Verdict;
+pub use formula::Formula;
+pub use std::alloc::AllocError as Memory;

@@ -1,0 +1,23 @@
+-- What the answers to a formula mean.
+use Rattle.std.specs.Prelude.{⊤, ℕ}
+use Rattle.kn_term.specs.Terms.{Valuation}
+use Rattle.kn_solve.specs.declared.asking.Verdict.{Verdict}
+use Rattle.kn_solve.specs.declared.asking.Verdict.TheVariants as verdicts
+
+-- what holds of the inputs that meet it
+abbrev pub OnMet : (Valuation → Type 0) → Verdict → Type 0
+OnMet P (verdicts.Met a) = P a
+OnMet P (verdicts.Never log) = ⊤
+OnMet P (verdicts.Undecided leaves) = ⊤
+
+-- what holds where no inputs meet it
+abbrev pub OnNever : Type 0 → Verdict → Type 0
+OnNever P (verdicts.Met a) = ⊤
+OnNever P (verdicts.Never log) = P
+OnNever P (verdicts.Undecided leaves) = ⊤
+
+-- what holds of the count where the search ended before an answer
+abbrev pub OnUndecided : (ℕ → Type 0) → Verdict → Type 0
+OnUndecided P (verdicts.Met a) = ⊤
+OnUndecided P (verdicts.Never log) = ⊤
+OnUndecided P (verdicts.Undecided leaves) = P leaves
