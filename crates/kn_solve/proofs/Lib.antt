@@ -2,3 +2,9 @@
 pub mod Ranks
 pub mod Stating
 pub mod Making
+pub mod Meeting
+pub mod Widest
+pub mod Wholly
+pub mod Splitting
+pub mod Answering
+pub mod Opening

@@ -2,4 +2,5 @@
 pub mod Formulas
 pub mod Wholes
 pub mod Orders
+pub mod Asking
 pub mod Verdicts

@@ -1,6 +1,7 @@
 -- What the answers to a formula mean.
-use Rattle.std.specs.Prelude.{⊤, ℕ}
+use Rattle.std.specs.Prelude.{◌≡◌, ⊤, ℕ}
 use Rattle.kn_term.specs.Terms.{Valuation}
+use Rattle.kn_cond.specs.Conditions.{Query, IsLeast, IsImpossible, IsFar}
 use Rattle.kn_solve.specs.declared.asking.Verdict.{Verdict}
 use Rattle.kn_solve.specs.declared.asking.Verdict.TheVariants as verdicts
 
@@ -21,3 +22,9 @@ abbrev pub OnUndecided : (ℕ → Type 0) → Verdict → Type 0
 OnUndecided P (verdicts.Met a) = ⊤
 OnUndecided P (verdicts.Never log) = ⊤
 OnUndecided P (verdicts.Undecided leaves) = P leaves
+
+-- an answer to a question
+abbrev pub IsVerdict : ℕ → Query → Verdict → Type 0
+IsVerdict budget q (verdicts.Met a) = IsLeast q a
+IsVerdict budget q (verdicts.Never log) = IsImpossible q
+IsVerdict budget q (verdicts.Undecided leaves) = (leaves ≡ budget) × IsFar budget q

@@ -16,9 +16,9 @@ use std::marker::Model;
 /// themselves, and it is kept in the allocator that `new` was given.
 #[derive(Drop)]
 pub struct Formula {
-    terms: Terms,
-    condition: Cond,
-    columns: Vec<Vec<Cond>>,
+    pub(crate) terms: Terms,
+    pub(crate) condition: Cond,
+    pub(crate) columns: Vec<Vec<Cond>>,
 }
 
 impl Model for Formula {

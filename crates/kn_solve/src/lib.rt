@@ -5,6 +5,6 @@ mod asking;
 mod formula;
 mod whole;
 
-pub use asking::Verdict;
+pub use asking::{Verdict, ask};
 pub use formula::Formula;
 pub use std::alloc::AllocError as Memory;
