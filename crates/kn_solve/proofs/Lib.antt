@@ -8,3 +8,4 @@ pub mod Wholly
 pub mod Splitting
 pub mod Answering
 pub mod Opening
+pub mod Found
