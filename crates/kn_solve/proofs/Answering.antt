@@ -1,6 +1,6 @@
 -- From what a search over clauses found to what is known of the inputs of a network.
 use Rattle.std.proofs.Common.{◌≡◌, ℕ, zero, suc, ◌+◌, ◌^◌, ◌%◌, ◌<◌, ◌≤◌, Bool, true, false, List, [], ◌∷◌, length, map, refl, sym, ap, subst, ◌∙◌, inl, inr, arith}
-use Rattle.std.specs.Prelude.{◌⊎◌, Contains}
+use Rattle.std.specs.Prelude.{Contains}
 use Rattle.std.specs.List.{AllByRecursion}
 use Rattle.std.proofs.lemmas.Bool.{cases_lt}
 use Rattle.std.proofs.Math.Nat.{mod-mod}
@@ -10,18 +10,17 @@ use Rattle.kn_aig.specs.declared.gates.AigNode.{AigNode}
 use Rattle.kn_aig.specs.Circuits.{value_of, inputs_of}
 use Rattle.kn_term.specs.Terms.{Valuation, listed}
 use Rattle.kn_term.specs.Valuations.{AreEntries, OneList}
-use Rattle.kn_cond.specs.Conditions.{Read, Query, AreWords, valuation_of, ComesBefore, MeetsWith, IsLeast, IsImpossible, IsFar, IsSmall, AreDistinct}
-use Rattle.kn_cnf.specs.declared.clauses.Lit.{Lit}
+use Rattle.kn_cond.specs.Conditions.{Read, Query, AreWords, valuation_of, ComesBefore, MeetsWith, IsLeast, IsImpossible, IsFar, AreDistinct}
 use Rattle.kn_cnf.specs.Formulas.{Formula}
 use Rattle.kn_cnf.specs.Truth.{AreNeverMet}
-use Rattle.kn_cnf.specs.Encoding.{IsEncoding, IsExtendable, bits_from}
+use Rattle.kn_cnf.specs.Encoding.{IsEncoding, IsExtendable}
 use Rattle.kn_sat.specs.Order.{number, Extends, AreRefuted}
 use Rattle.kn_blast.specs.declared.inputs.InputBits.{InputBits}
 use Rattle.kn_blast.specs.Inputs.{bits_of, IsGivenBy, AreInputBits, IsBefore}
 use Rattle.kn_solve.specs.Orders.{width_of, rank}
 use Rattle.kn_solve.specs.Asking.{RisesBehind, AreRising, width_at, read_of, IsCircuitOf}
 use Rattle.kn_solve.proofs.Ranks.{lower_before, before_lower}
-use Rattle.kn_solve.proofs.Splitting.{words_at, rank_words, are_words, spelled_by, bits_for, entry_words, entry_words_at, entries_width, word_at, given_word, listed_word, valuation_entries, cut_words, cut_are_words, cut_word_at}
+use Rattle.kn_solve.proofs.Splitting.{words_at, rank_words, are_words, spelled_by, bits_for, entry_words_at, entries_width, word_at, given_word, listed_word, valuation_entries, cut_words, cut_are_words, cut_word_at}
 
 behind_entries : (e : InputBits) (es : List InputBits) → AllByRecursion (IsBefore e) es → AllByRecursion (RisesBehind e.node e.index) (map read_of es)
 behind_entries e [] all = tt
@@ -126,10 +125,10 @@ spent_far q es ns e f budget circuit order many extends few refuted =
     let power : 2 ^ width_of q.reads ≡ 2 ^ inputs_of ns = ap (λ (n : ℕ). 2 ^ n) (all_bits q es ns e circuit order many) in
     let first = tried q.reads budget (omega (arith, power, few)) in
     let behind : (ws : List ℕ) → AreWords q.reads ws × (rank q.reads ws < budget) → (vs : List ℕ) → MeetsWith q vs → ComesBefore ws vs =
-      λ ws h vs meets. elim (cases_lt (rank q.reads vs) budget) [
-        | inl low ↦ absurd (none_below q es ns e circuit order many f budget extends refuted vs meets low)
-        | inr high ↦ lower_before q.reads ws vs h.0 meets.0 (omega (arith, h.1, high))
-      ] in
+    λ ws h vs meets. elim (cases_lt (rank q.reads vs) budget) [
+      | inl low ↦ absurd (none_below q es ns e circuit order many f budget extends refuted vs meets low)
+      | inr high ↦ lower_before q.reads ws vs h.0 meets.0 (omega (arith, h.1, high))
+    ] in
     record {
       large = λ small. omega (arith, small, power, few);
       tried = first.lists;

@@ -1,5 +1,5 @@
 -- What a search found, as an answer to what is asked.
-use Rattle.std.proofs.Common.{◌≡◌, ℕ, ◌^◌, ◌<◌, Bool, List, [], ◌∷◌, length, map, refl, sym, ap, subst, ◌∙◌}
+use Rattle.std.proofs.Common.{◌≡◌, ℕ, ◌^◌, ◌<◌, Bool, List, length, map, ap, subst, ◌∙◌}
 use Rattle.std.specs.Prelude.{Vec}
 use Rattle.std.specs.declared.alloc.Global.{Global}
 use Rattle.kn_aig.specs.declared.gates.Edge.{Edge}
@@ -7,7 +7,7 @@ use Rattle.kn_aig.specs.declared.gates.AigNode.{AigNode}
 use Rattle.kn_aig.specs.Circuits.{inputs_of}
 use Rattle.kn_term.specs.declared.node.Node.{Node}
 use Rattle.kn_term.specs.declared.node.Literal.{Literal as Listed}
-use Rattle.kn_term.specs.Terms.{Term, Word, Valuation}
+use Rattle.kn_term.specs.Terms.{Word, Valuation}
 use Rattle.kn_term.specs.Nodes.{term_at, AreNodes}
 use Rattle.kn_term.specs.Valuations.{AreEntries, OneList}
 use Rattle.kn_cond.specs.Conditions.{Query, IsLeast, IsImpossible, IsFar}
@@ -49,9 +49,10 @@ pub spent_verdict : (q : Query) (es : List InputBits) (ns : List AigNode) (e : E
     → OnSpent (λ c. c ≡ budget) o → OnSpent (λ c. budget < 2 ^ n) o → OnSpent (λ c. AreRefuted n f.clauses budget) o → IsCircuitOf q es ns e → (count ≡ budget) × IsFar budget q
 spent_verdict q es ns e f n budget o count extends order many same is all few refuted circuit =
     let left : budget < 2 ^ n = subst (OnSpent (λ c. budget < 2 ^ n)) is few in
-    let closed : AreRefuted n f.clauses budget = subst (OnSpent (λ c. AreRefuted n f.clauses budget)) is refuted in
-    (subst (OnSpent (λ c. c ≡ budget)) is all,
-     spent_far q es ns e f budget circuit order many extends (subst (λ (m : ℕ). budget < 2 ^ m) same left) (subst (λ (m : ℕ). AreRefuted m f.clauses budget) same closed))
+    let closed : AreRefuted n f.clauses budget = subst (OnSpent (λ c. AreRefuted n f.clauses budget)) is refuted in (
+      subst (OnSpent (λ c. c ≡ budget)) is all,
+      spent_far q es ns e f budget circuit order many extends (subst (λ (m : ℕ). budget < 2 ^ m) same left) (subst (λ (m : ℕ). AreRefuted m f.clauses budget) same closed),
+    )
 
 -- each of the three answers
 pub verdict_met : (budget : ℕ) (q : Query) (v : Verdict) → IsVerdict budget q v → OnMet (IsLeast q) v

@@ -1,5 +1,5 @@
 -- The term of a formula, as it is made.
-use Rattle.std.proofs.Common.{◌≡◌, ℕ, zero, suc, ◌+◌, ◌<◌, ◌≤◌, Bool, true, false, List, [], ◌∷◌, length, drop, get_or, map, refl, sym, ap, subst, ◌∙◌, arith}
+use Rattle.std.proofs.Common.{◌≡◌, ℕ, zero, suc, ◌+◌, ◌<◌, ◌≤◌, Bool, true, false, List, [], ◌∷◌, length, drop, get_or, map, sym, ap, subst, ◌∙◌, arith}
 use Rattle.std.specs.Prelude.{if◌then◌else◌, Vec}
 use Rattle.std.specs.declared.alloc.Global.{Global}
 use Rattle.std.specs.List.{AllByRecursion}
@@ -12,8 +12,7 @@ use Rattle.kn_term.specs.declared.node.Ref.{Ref}
 use Rattle.kn_term.specs.declared.node.Literal.{Literal as Listed}
 use Rattle.kn_term.specs.Terms.{Term, Word, Choice}
 use Rattle.kn_term.specs.Nodes.{term_at}
-use Rattle.kn_term.proofs.Kept.{term_at-extends, nodes-extends}
-use Rattle.kn_cond.specs.Literals.{Literal}
+use Rattle.kn_term.proofs.Kept.{term_at-extends}
 use Rattle.kn_cond.specs.Conditions.{Condition}
 use Rattle.kn_cond.specs.Meanings.{literal_of, condition_of, StandIn}
 use Rattle.kn_cond.proofs.Kept.{condition_of-extends}

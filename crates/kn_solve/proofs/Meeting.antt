@@ -5,7 +5,7 @@ use Rattle.kn_term.specs.Terms.{Term, Word, Choice, Valuation, ev, chosen_word}
 use Rattle.kn_cond.specs.Literals.{Literal, same_bit}
 use Rattle.kn_cond.specs.Conditions.{Condition, literal_holds, holds, some_holds, columns_hold}
 use Rattle.kn_solve.specs.Formulas.{Asked, query_of}
-use Rattle.kn_solve.specs.Wholes.{taken_in, with_literal, with_condition, with_alternative, some_alternative, with_column, with_columns, whole}
+use Rattle.kn_solve.specs.Wholes.{taken_in, with_literal, with_condition, with_alternative, with_column, with_columns, whole}
 
 -- a number where a test holds, else 0
 abbrev gate : Bool → ℕ → ℕ

@@ -1,6 +1,6 @@
 -- The circuit of a term, as what is asked of it.
 use Rattle.std.proofs.Common.{◌≡◌, ℕ, zero, suc, ◌+◌, ◌-◌, ◌^◌, ◌%◌, ◌<◌, ◌≤◌, Bool, true, false, List, [], ◌∷◌, ◌++◌, length, map, flat_map, max, get_or, Some, refl, sym, ap, subst, ◌∙◌, inl, inr, arith}
-use Rattle.std.specs.Prelude.{◌⊎◌, ◌&&◌, nat_eq, not, if◌then◌else◌, slice_get, Vec}
+use Rattle.std.specs.Prelude.{◌&&◌, nat_eq, not, if◌then◌else◌, slice_get, Vec}
 use Rattle.std.specs.declared.alloc.Global.{Global}
 use Rattle.std.specs.List.{AllByRecursion}
 use Rattle.std.proofs.lemmas.Bool.{cases_lt, eqb-true, eq-eqb}
@@ -9,7 +9,6 @@ use Rattle.std.proofs.Math.Pow.{mod-mod-pow}
 use Rattle.kn_built.proofs.Deciding.{both_true}
 use Rattle.kn_aig.specs.declared.gates.Edge.{Edge}
 use Rattle.kn_aig.specs.declared.gates.AigNode.{AigNode}
-use Rattle.kn_aig.specs.Circuits.{value_of}
 use Rattle.kn_term.specs.declared.node.Node.{Node}
 use Rattle.kn_term.specs.declared.node.Node.TheVariants as nodes
 use Rattle.kn_term.specs.declared.node.Ref.{Ref}
@@ -18,7 +17,7 @@ use Rattle.kn_term.specs.Terms.{Term, Word, Input, Apply, Choice, Valuation, Rea
 use Rattle.kn_term.specs.Nodes.{term_of, terms_of, term_at, IsNodeAt, AreNodes}
 use Rattle.kn_term.specs.Valuations.{OneList}
 use Rattle.kn_term.proofs.Kept.{term_at-node}
-use Rattle.kn_cond.specs.Conditions.{Condition, Read, Query, reads_in, reads_of, widest}
+use Rattle.kn_cond.specs.Conditions.{Read, Query, reads_in, reads_of, widest}
 use Rattle.kn_cond.specs.Meanings.{condition_of, StandIn}
 use Rattle.kn_cond.proofs.Kept.{StandIn-rest}
 use Rattle.kn_blast.specs.declared.inputs.InputBits.{InputBits}
@@ -26,10 +25,10 @@ use Rattle.kn_blast.specs.Spelling.{number, Has}
 use Rattle.kn_blast.specs.Inputs.{width_of, IsGivenBy, AreInputBits, Covers}
 use Rattle.kn_blast.specs.Reached.{RootsRead}
 use Rattle.kn_blast.proofs.Opened.{one_root}
-use Rattle.kn_solve.specs.Formulas.{Asked, query_of, column_of, ColumnStands, ColumnsStand}
+use Rattle.kn_solve.specs.Formulas.{Asked, query_of, column_of, ColumnsStand}
 use Rattle.kn_solve.specs.Wholes.{whole}
-use Rattle.kn_solve.specs.Asking.{AreRising, width_at, read_of, IsOfTerm, IsCircuitOf}
-use Rattle.kn_solve.proofs.Widest.{greatest, greatest_append, own_width, widest_greatest, widest_rising, ArePositive, widest_positive, rising_width, same_reads}
+use Rattle.kn_solve.specs.Asking.{width_at, read_of, IsOfTerm, IsCircuitOf}
+use Rattle.kn_solve.proofs.Widest.{greatest, greatest_append, widest_greatest, widest_rising, ArePositive, widest_positive, rising_width, same_reads}
 use Rattle.kn_solve.proofs.Wholly.{all_reads, whole_widest}
 use Rattle.kn_solve.proofs.Meeting.{meets_whole}
 use Rattle.kn_solve.proofs.Answering.{entries_rising}
@@ -141,10 +140,10 @@ pub circuit_of_term : OneList → WordsByInputs → (q : Query) (ns : List Node)
 circuit_of_term law words q ns r es old new word e asked are within order covers read value has =
     let t = term_at ns r.index in
     let of_root : (n k : ℕ) → 0 < width_of es n k → Reads n k (width_of es n k) t = λ n k h.
-      let found = read n k h in one_root (λ (s : Ref). Reads n k (width_of es n k) (term_at ns s.index) → Reads n k (width_of es n k) t) r (λ x. x) found.0 found.1 found.2 found.3 in
+    let found = read n k h in one_root (λ (s : Ref). Reads n k (width_of es n k) (term_at ns s.index) → Reads n k (width_of es n k) t) r (λ x. x) found.0 found.1 found.2 found.3 in
     let widths : (n k : ℕ) → width_at (widest (reads_in t)) n k ≡ greatest (reads_in t) n k = λ n k. rising_width (widest (reads_in t)) n k (widest_rising (reads_in t)) ∙ widest_greatest (reads_in t) n k in
     let all : (n k width : ℕ) → Reads n k width t → width ≤ width_at q.reads n k = λ n k width reads.
-      subst (λ (w : ℕ). width ≤ w) (sym (ap (λ (rs : List Read). width_at rs n k) asked.reads ∙ widths n k)) (read_widest t n k width reads) in
+    subst (λ (w : ℕ). width ≤ w) (sym (ap (λ (rs : List Read). width_at rs n k) asked.reads ∙ widths n k)) (read_widest t n k width reads) in
     record {
       reads = asked.reads ∙ same_reads law (widest (reads_in t)) (map read_of es) (widest_rising (reads_in t)) (entries_rising 0 es order) (widest_positive (reads_in t) (term_positive ns r.index are within)) (entries_positive 0 es order) (λ n k.
           widths n k ∙ (opened_widest es t n k covers (of_root n k) ∙ sym (entries_width_at es n k)));
@@ -152,6 +151,6 @@ circuit_of_term law words q ns r es old new word e asked are within order covers
       depends = λ a b same.
           asked.meets a
           ∙ (ap (λ (w : ℕ). not (nat_eq w 0)) (words t a b (λ n k width reads.
-              sym (cut_shorter (listed a n k) width (width_at q.reads n k) (all n k width reads)) ∙ (ap (λ (w : ℕ). w % 2 ^ width) (same n k) ∙ cut_shorter (listed b n k) width (width_at q.reads n k) (all n k width reads))))
+          sym (cut_shorter (listed a n k) width (width_at q.reads n k) (all n k width reads)) ∙ (ap (λ (w : ℕ). w % 2 ^ width) (same n k) ∙ cut_shorter (listed b n k) width (width_at q.reads n k) (all n k width reads))))
           ∙ sym (asked.meets b));
     }

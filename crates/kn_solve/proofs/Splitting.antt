@@ -1,8 +1,8 @@
 -- Bits as words of inputs, and the valuations of these words.
 use Rattle.std.proofs.Common.{◌≡◌, ℕ, zero, suc, ◌+◌, ◌-◌, ◌*◌, ◌^◌, ◌%◌, ◌<◌, ◌≤◌, Bool, true, false, List, [], ◌∷◌, ◌++◌, length, take, drop, get_or, map, refl, sym, ap, subst, ◌∙◌, inl, inr, arith, length-append}
-use Rattle.std.specs.Prelude.{◌⊎◌, ◌&&◌, nat_eq, if◌then◌else◌, sum_by, slice_index_or}
+use Rattle.std.specs.Prelude.{◌&&◌, nat_eq, if◌then◌else◌, slice_index_or}
 use Rattle.std.specs.List.{AllByRecursion}
-use Rattle.std.proofs.lemmas.Bool.{cases_lt, eqb-true, eq-eqb}
+use Rattle.std.proofs.lemmas.Bool.{cases_lt, eqb-true}
 use Rattle.std.proofs.lemmas.List.{take-append-drop, length-take-le, length-drop, drop_more, drop-drop}
 use Rattle.std.proofs.lemmas.List.Sums.{sum_by-cons}
 use Rattle.std.proofs.lemmas.Nat.{pow_pos}
@@ -10,14 +10,14 @@ use Rattle.std.proofs.Math.Nat.{mod-lt, pow-succ'}
 use Rattle.std.proofs.Math.Pow.{pow-add}
 use Rattle.kn_built.proofs.Deciding.{both_true}
 use Rattle.kn_term.specs.Terms.{Given, Valuation, listed}
-use Rattle.kn_term.specs.Valuations.{precedes, Precedes, AreEntries}
+use Rattle.kn_term.specs.Valuations.{precedes, AreEntries}
 use Rattle.kn_term.proofs.Entries.{absent}
-use Rattle.kn_cond.specs.Conditions.{Read, AreWords, valuation_of, listing}
+use Rattle.kn_cond.specs.Conditions.{Read, AreWords, valuation_of}
 use Rattle.kn_sat.specs.Order.{number}
 use Rattle.kn_sat.proofs.Numbers.{number-below}
 use Rattle.kn_blast.specs.declared.inputs.InputBits.{InputBits}
 use Rattle.kn_blast.specs.Spelling.{weight}
-use Rattle.kn_blast.specs.Inputs.{bits_of, word_before, given_by, AreInputBits, IsBefore}
+use Rattle.kn_blast.specs.Inputs.{bits_of, word_before, given_by, AreInputBits}
 use Rattle.kn_solve.specs.Orders.{width_of, rank}
 use Rattle.kn_solve.specs.Asking.{RisesBehind, AreRising, width_at, read_of}
 use Rattle.kn_solve.proofs.Ranks.{rank-below, one_rank}
@@ -126,7 +126,7 @@ listed_word [] ws n k h = refl
 listed_word (r ∷ rs) [] n k h = refl
 listed_word (r ∷ rs) (w ∷ ws) n k h = go (listed_word rs ws n k h.1) (nat_eq w 0) refl (nat_eq r.node n && nat_eq r.index k) refl where
   go : listed (valuation_of rs ws) n k ≡ word_at rs ws n k → (z : Bool) → nat_eq w 0 ≡ z → (b : Bool) → (nat_eq r.node n && nat_eq r.index k) ≡ b
-    → listed (if z then valuation_of rs ws else record { node = r.node; index = r.index; word = w } ∷ valuation_of rs ws) n k ≡ (if b then w else word_at rs ws n k)
+      → listed (if z then valuation_of rs ws else record { node = r.node; index = r.index; word = w } ∷ valuation_of rs ws) n k ≡ (if b then w else word_at rs ws n k)
   go more true e true own =
       let s = both_true (nat_eq r.node n) (nat_eq r.index k) own in
       let none : listed (valuation_of rs ws) r.node r.index ≡ 0 = absent r.node r.index (valuation_of rs ws) (behind_valuation r.node r.index rs ws h.0) in
@@ -161,7 +161,7 @@ pub cut_word_at : (a : Valuation) (rs : List Read) (n k : ℕ) → word_at rs (c
 cut_word_at a [] n k = mod_one (listed a n k)
 cut_word_at a (r ∷ rs) n k = go (cut_word_at a rs n k) (nat_eq r.node n && nat_eq r.index k) refl where
   go : word_at rs (cut_words a rs) n k ≡ listed a n k % 2 ^ width_at rs n k → (b : Bool) → (nat_eq r.node n && nat_eq r.index k) ≡ b
-    → (if b then listed a r.node r.index % 2 ^ r.width else word_at rs (cut_words a rs) n k) ≡ listed a n k % 2 ^ (if b then r.width else width_at rs n k)
+      → (if b then listed a r.node r.index % 2 ^ r.width else word_at rs (cut_words a rs) n k) ≡ listed a n k % 2 ^ (if b then r.width else width_at rs n k)
   go more true own =
       let s = both_true (nat_eq r.node n) (nat_eq r.index k) own in
       ap (λ (m : ℕ). listed a m r.index % 2 ^ r.width) (eqb-true r.node n s.0) ∙ ap (λ (j : ℕ). listed a n j % 2 ^ r.width) (eqb-true r.index k s.1)

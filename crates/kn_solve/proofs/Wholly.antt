@@ -1,12 +1,11 @@
 -- The term of a formula reads what the formula reads.
-use Rattle.std.proofs.Common.{◌≡◌, ℕ, ◌<◌, ◌≤◌, Bool, true, false, List, [], ◌∷◌, ◌++◌, map, flat_map, max, refl, sym, ap, subst, ◌∙◌, inl, inr, arith}
-use Rattle.std.specs.Prelude.{◌⊎◌, if◌then◌else◌}
-use Rattle.std.specs.List.{AllByRecursion}
-use Rattle.kn_term.specs.Terms.{Term, Word, Input, Apply, Choice}
+use Rattle.std.proofs.Common.{◌≡◌, ℕ, Bool, true, false, List, [], ◌∷◌, ◌++◌, flat_map, max, ap, ◌∙◌, arith}
+use Rattle.std.specs.Prelude.{if◌then◌else◌}
+use Rattle.kn_term.specs.Terms.{Term, Word, Choice}
 use Rattle.kn_cond.specs.Literals.{Literal}
-use Rattle.kn_cond.specs.Conditions.{Condition, Read, Query, reads_in, reads_of, widest}
-use Rattle.kn_solve.specs.Formulas.{Asked, query_of}
-use Rattle.kn_solve.specs.Wholes.{taken_in, with_literal, with_condition, with_alternative, some_alternative, with_column, with_columns, whole}
+use Rattle.kn_cond.specs.Conditions.{Condition, Read, reads_in, reads_of}
+use Rattle.kn_solve.specs.Formulas.{Asked}
+use Rattle.kn_solve.specs.Wholes.{taken_in, with_literal, with_condition, with_alternative, some_alternative, with_column, whole}
 use Rattle.kn_solve.proofs.Widest.{greatest, greatest_append}
 
 -- the greatest width with which a term reads an input

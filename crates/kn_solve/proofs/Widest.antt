@@ -1,15 +1,14 @@
 -- The inputs that are read, in order, with their greatest widths.
-use Rattle.std.proofs.Common.{◌≡◌, ℕ, zero, suc, ◌+◌, ◌<◌, ◌≤◌, Bool, true, false, cond, List, [], ◌∷◌, ◌++◌, map, flat_map, max, refl, sym, ap, subst, ◌∙◌, inl, inr, arith}
-use Rattle.std.specs.Prelude.{◌⊎◌, ◌&&◌, nat_eq, if◌then◌else◌, Contains}
+use Rattle.std.proofs.Common.{◌≡◌, ℕ, ◌<◌, Bool, true, false, List, [], ◌∷◌, ◌++◌, map, max, refl, sym, ap, ◌∙◌, arith}
+use Rattle.std.specs.Prelude.{◌&&◌, nat_eq, if◌then◌else◌}
 use Rattle.std.specs.List.{AllByRecursion}
 use Rattle.std.specs.declared.cmp.Ordering.{Ordering}
 use Rattle.std.specs.declared.cmp.Ordering.TheVariants.{Less, Equal, Greater}
-use Rattle.std.specs.Ordering.{nat_cmp, ordering_then}
-use Rattle.std.proofs.lemmas.Bool.{eqb-true, eq-eqb}
+use Rattle.std.proofs.lemmas.Bool.{eqb-true}
 use Rattle.kn_built.proofs.Deciding.{both_true}
 use Rattle.kn_built.proofs.Sorted.{All-each}
-use Rattle.kn_term.specs.Terms.{Given, Valuation, listed}
-use Rattle.kn_term.specs.Valuations.{precedes, AreEntries, OneList, Precedes}
+use Rattle.kn_term.specs.Terms.{Given, listed}
+use Rattle.kn_term.specs.Valuations.{precedes, AreEntries, OneList}
 use Rattle.kn_term.proofs.Entries.{precedes-trans, absent}
 use Rattle.kn_cond.specs.Conditions.{Read, read_cmp, put_before, put_read, widest}
 use Rattle.kn_solve.specs.Asking.{RisesBehind, AreRising, width_at}

@@ -98,12 +98,7 @@ fn push_last(columns: &mut Vec<Vec<Cond>>, c: Cond) -> Result<(), AllocError>
 
 /// The literals of a condition over another list of terms, as literals over this one, whose earlier Refs keep their terms.
 /// Err is want of memory.
-fn imported(
-    alloc: Global,
-    own: &mut Terms,
-    terms: &Terms,
-    c: &Cond,
-) -> Result<Cond, AllocError>
+fn imported(alloc: Global, own: &mut Terms, terms: &Terms, c: &Cond) -> Result<Cond, AllocError>
     requires { StandIn terms.now c.now }
     ensures same { IfOk result (λ d. condition_of own.new d ≡ condition_of terms.now c.now) }
     ensures stand { IfOk result (λ d. StandIn own.new d) }

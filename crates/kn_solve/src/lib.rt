@@ -8,3 +8,6 @@ mod whole;
 pub use asking::{Verdict, ask};
 pub use formula::Formula;
 pub use std::alloc::AllocError as Memory;
+
+#[cfg(test)]
+mod tests;

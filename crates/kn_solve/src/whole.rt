@@ -30,11 +30,7 @@ fn with_literal(terms: &mut Terms, literal: Literal, then: Ref) -> Result<Ref, A
 }
 
 /// A term where each literal holds, else 0.
-fn with_condition(
-    terms: &mut Terms,
-    literals: &[Literal],
-    then: Ref,
-) -> Result<Ref, AllocError>
+fn with_condition(terms: &mut Terms, literals: &[Literal], then: Ref) -> Result<Ref, AllocError>
     requires literals { StandIn terms.old literals.now }
     requires stands { then.index < length terms.old }
     ensures term { IfOk result (λ r. term_at terms.new r.index ≡ with_condition (condition_of terms.old literals.now) (term_at terms.old then.index)) }
@@ -49,11 +45,7 @@ fn with_condition(
 }
 
 /// 1 where the alternative holds, else a term.
-fn with_alternative(
-    terms: &mut Terms,
-    alternative: &Cond,
-    other: Ref,
-) -> Result<Ref, AllocError>
+fn with_alternative(terms: &mut Terms, alternative: &Cond, other: Ref) -> Result<Ref, AllocError>
     requires literals { StandIn terms.old alternative.now }
     requires stands { other.index < length terms.old }
     ensures term { IfOk result (λ r. term_at terms.new r.index ≡ with_alternative (condition_of terms.old alternative.now) (term_at terms.old other.index)) }
@@ -93,11 +85,7 @@ fn with_column(terms: &mut Terms, column: &[Cond], then: Ref) -> Result<Ref, All
 }
 
 /// A term where each column has an alternative that holds, else 0.
-fn with_columns(
-    terms: &mut Terms,
-    columns: &[Vec<Cond>],
-    then: Ref,
-) -> Result<Ref, AllocError>
+fn with_columns(terms: &mut Terms, columns: &[Vec<Cond>], then: Ref) -> Result<Ref, AllocError>
     requires columns { ColumnsStand terms.old columns.now }
     requires stands { then.index < length terms.old }
     ensures term { IfOk result (λ r. term_at terms.new r.index ≡ with_columns (map (column_of terms.old) columns.now) (term_at terms.old then.index)) }

@@ -1,5 +1,4 @@
 -- One more literal.
-use Rattle.kn_term.specs.Nodes.{term_at}
 use Rattle.kn_built.proofs.BuiltLaws.{extends-twice}
 use Rattle.kn_cond.specs.Meanings.{literal_of}
 use Rattle.kn_solve.specs.Wholes.{with_literal}

@@ -1,5 +1,5 @@
 -- The literals behind those of the condition.
-use Rattle.std.proofs.Common.{◌∙◌, refl}
+use Rattle.std.proofs.Common.{◌∙◌}
 use Rattle.kn_solve.proofs.Stating.{stated_kept, on_err, on_ok, on_err_each, joined_stand, joined_stated, columns_stand, left_stated}
 use Rattle.kn_solve.proofs.formula.Formula.add.Goals as goal
 
@@ -10,7 +10,8 @@ returns-in_err-own-clause-err c =
 pub invariant_of-self-2 : goal.invariant_of-self-2
 invariant_of-self-2 c = (
   joined_stand c.join.result c.self.inside.terms c.imported.new.own c.self.inside.condition c.in_ok-own.own c.join.new.self c.imported.ensures.grows c.self.invariant.0 c.in_ok-own.ensures.stand c.join.ensures.ok c.join.ensures.err,
-  columns_stand c.self.inside.terms c.imported.new.own c.self.inside.columns.items c.imported.ensures.grows c.self.invariant.1)
+  columns_stand c.self.inside.terms c.imported.new.own c.self.inside.columns.items c.imported.ensures.grows c.self.invariant.1,
+)
 
 pub returns-clause-ok : goal.returns-clause-ok
 returns-clause-ok c =

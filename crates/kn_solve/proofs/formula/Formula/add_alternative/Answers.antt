@@ -11,7 +11,8 @@ returns-in_err-own-clause-err c =
 pub invariant_of-self-2 : goal.invariant_of-self-2
 invariant_of-self-2 c = (
   StandIn-extends c.self.inside.terms c.imported.new.own c.self.inside.condition c.imported.ensures.grows c.self.invariant.0,
-  c.push_last.ensures.stand c.imported.new.own c.in_ok-own.ensures.stand (columns_stand c.self.inside.terms c.imported.new.own c.self.inside.columns.items c.imported.ensures.grows c.self.invariant.1))
+  c.push_last.ensures.stand c.imported.new.own c.in_ok-own.ensures.stand (columns_stand c.self.inside.terms c.imported.new.own c.self.inside.columns.items c.imported.ensures.grows c.self.invariant.1),
+)
 
 pub returns-clause-ok : goal.returns-clause-ok
 returns-clause-ok c =
