@@ -4,6 +4,8 @@ use Rattle.kn_term.specs.Terms.{Valuation}
 use Rattle.kn_cond.specs.Conditions.{Query, IsLeast, IsImpossible, IsFar}
 use Rattle.kn_solve.specs.declared.asking.Verdict.{Verdict}
 use Rattle.kn_solve.specs.declared.asking.Verdict.TheVariants as verdicts
+use Rattle.kn_solve.specs.declared.judge.Judged.{Judged}
+use Rattle.kn_solve.specs.declared.judge.Judged.TheVariants as judged
 
 -- what holds of the inputs that meet it
 abbrev pub OnMet : (Valuation → Type 0) → Verdict → Type 0
@@ -28,3 +30,9 @@ abbrev pub IsVerdict : ℕ → Query → Verdict → Type 0
 IsVerdict budget q (verdicts.Met a) = IsLeast q a
 IsVerdict budget q (verdicts.Never log) = IsImpossible q
 IsVerdict budget q (verdicts.Undecided leaves) = (leaves ≡ budget) × IsFar budget q
+
+-- the same without the log
+abbrev pub IsJudged : ℕ → Query → Judged → Type 0
+IsJudged budget q (judged.Met a) = IsLeast q a
+IsJudged budget q judged.Never = IsImpossible q
+IsJudged budget q (judged.Undecided leaves) = (leaves ≡ budget) × IsFar budget q

@@ -82,6 +82,21 @@ impl Formula {
         let own = imported(*self.columns.allocator(), &mut self.terms, terms, c)?;
         push_last(&mut self.columns, own)
     }
+
+    /// The condition, over the formula's own terms.
+    pub fn condition(&self) -> (&Terms, &Cond)
+        ensures stands { StandIn result.0.now result.1.now }
+        ensures means { condition_of result.0.now result.1.now ≡ self.now.condition }
+    {
+        (&self.terms, &self.condition)
+    }
+
+    /// How many columns there are.
+    pub fn columns(&self) -> usize
+        ensures { result ≡ length self.now.columns }
+    {
+        self.columns.len()
+    }
 }
 
 /// One alternative more in the last column. Err is want of memory, and leaves the columns as they were.

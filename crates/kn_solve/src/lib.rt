@@ -3,10 +3,12 @@
 
 mod asking;
 mod formula;
+mod judge;
 mod whole;
 
 pub use asking::{Verdict, ask};
 pub use formula::Formula;
+pub use judge::{Judge, Judged, Plain};
 pub use std::alloc::AllocError as Memory;
 
 #[cfg(test)]

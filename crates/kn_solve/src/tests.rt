@@ -87,36 +87,48 @@ fn nothing_asked_and_a_column_without_alternatives(rt: HostRuntime) -> Result<()
     Ok(())
 }
 
-/// The formula that x is not 0, that x is 5 or 3, and that y is 9 or x - 1, x and y inputs of 4 bits.
-fn of_two_columns(alloc: Global) -> Result<Formula, Memory> {
+/// The condition that an input of node 0 of 4 bits has a word, and its terms.
+fn input_is(alloc: Global, index: u32, word: u16) -> Result<(Terms, Cond), Memory>
+    ensures { IfOk result (λ p. StandIn p.0 p.1) }
+{
+    let mut terms = Terms::new(alloc);
+    let x = terms.input(0, index, 4)?;
+    let c = is_word(alloc, &mut terms, x, word)?;
+    Ok((terms, c))
+}
+
+/// The condition that the second input of node 0 is the first one less 1, and its terms.
+fn second_is_one_less(alloc: Global) -> Result<(Terms, Cond), Memory>
+    ensures { IfOk result (λ p. StandIn p.0 p.1) }
+{
     let mut terms = Terms::new(alloc);
     let x = terms.input(0, 0, 4)?;
-    let mut f = Formula::new(alloc);
-    f.add(&terms, &condition(alloc, x, true)?)?;
-    f.open_column()?;
-    let five = is_word(alloc, &mut terms, x, 5)?;
-    f.add_alternative(&terms, &five)?;
-    let x = terms.input(0, 0, 4)?;
-    let three = is_word(alloc, &mut terms, x, 3)?;
-    f.add_alternative(&terms, &three)?;
-    f.open_column()?;
-    let y = terms.input(0, 1, 4)?;
-    let nine = is_word(alloc, &mut terms, y, 9)?;
-    f.add_alternative(&terms, &nine)?;
-    let (x, y, one) = (
-        terms.input(0, 0, 4)?,
-        terms.input(0, 1, 4)?,
-        terms.konst(1)?,
-    );
+    let one = terms.konst(1)?;
     let before = terms.apply(Op::Sub, x, one)?;
+    let y = terms.input(0, 1, 4)?;
     let same = terms.apply(Op::Eq, y, before)?;
-    f.add_alternative(&terms, &condition(alloc, same, true)?)?;
+    let c = condition(alloc, same, true)?;
+    Ok((terms, c))
+}
+
+/// The formula that the first input is 5 or 3.
+fn of_one_column(alloc: Global) -> Result<Formula, Memory> {
+    let mut f = Formula::new(alloc);
+    f.open_column()?;
+    let (terms, five) = input_is(alloc, 0, 5)?;
+    f.add_alternative(&terms, &five)?;
+    let (terms, three) = input_is(alloc, 0, 3)?;
+    f.add_alternative(&terms, &three)?;
     Ok(f)
 }
 
 #[test]
 fn one_alternative_of_each_column(rt: HostRuntime) -> Result<(), Fail> {
-    let v = ask(&of_two_columns(rt.alloc())?, 65_536)?;
+    let mut f = of_one_column(rt.alloc())?;
+    let (terms, less) = second_is_one_less(rt.alloc())?;
+    f.open_column()?;
+    f.add_alternative(&terms, &less)?;
+    let v = ask(&f, 65_536)?;
     assert_eq!(rt; word_met(&v, 0), Some(3));
     assert_eq!(rt; word_met(&v, 1), Some(2));
     Ok(())
@@ -133,38 +145,77 @@ fn of_ones(alloc: Global, count: u32) -> Result<Formula, Memory> {
     Ok(f)
 }
 
-/// The formula that the bits in which two inputs of 4 bits differ, with twice those that both have, are not their sum.
+/// What an operator makes of two inputs of 4 bits.
+fn of_inputs(terms: &mut Terms, op: Op) -> Result<Ref, Memory>
+    ensures stands { IfOk result (λ r. r.index < length terms.new) }
+    ensures grows { Extends terms.old terms.new }
+{
+    let x = terms.input(0, 0, 4)?;
+    let y = terms.input(0, 1, 4)?;
+    terms.apply(op, x, y)
+}
+
+/// The bits in which two inputs differ, with twice those that both have.
+fn of_parts(terms: &mut Terms) -> Result<Ref, Memory>
+    ensures stands { IfOk result (λ r. r.index < length terms.new) }
+    ensures grows { Extends terms.old terms.new }
+{
+    let both = of_inputs(terms, Op::And)?;
+    let twice = terms.apply(Op::Add, both, both)?;
+    let one = of_inputs(terms, Op::Xor)?;
+    terms.apply(Op::Add, one, twice)
+}
+
+/// The formula that these parts are not the sum of the inputs.
 fn of_no_sum(alloc: Global) -> Result<Formula, Memory> {
     let mut terms = Terms::new(alloc);
-    let (x, y, two) = (
-        terms.input(0, 0, 4)?,
-        terms.input(0, 1, 4)?,
-        terms.konst(2)?,
-    );
-    let both = terms.apply(Op::And, x, y)?;
-    let one = terms.apply(Op::Xor, x, y)?;
-    let twice = terms.apply(Op::Mul, both, two)?;
-    let parts = terms.apply(Op::Add, one, twice)?;
-    let sum = terms.apply(Op::Add, x, y)?;
+    let parts = of_parts(&mut terms)?;
+    let sum = of_inputs(&mut terms, Op::Add)?;
     let same = terms.apply(Op::Eq, parts, sum)?;
+    let c = condition(alloc, same, false)?;
     let mut f = Formula::new(alloc);
-    f.add(&terms, &condition(alloc, same, false)?)?;
+    f.add(&terms, &c)?;
     Ok(f)
+}
+
+/// How many valuations were closed, if the formula was not decided.
+fn leaves_of(v: &Verdict) -> Option<u64> {
+    match v {
+        Verdict::Undecided { leaves } => Some(*leaves),
+        _ => None,
+    }
+}
+
+/// Whether each of so many inputs is 1.
+fn all_ones(v: &Verdict, count: u32) -> bool {
+    for index in 0..count {
+        if word_met(v, index) != Some(1) {
+            return false;
+        }
+    }
+    true
 }
 
 #[test]
 fn a_budget_as_great_as_all_valuations_decides(rt: HostRuntime) -> Result<(), Fail> {
     let ones = ask(&of_ones(rt.alloc(), 17)?, 131_072)?;
-    for index in 0..17 {
-        assert_eq!(rt; word_met(&ones, index), Some(1));
-    }
+    assert!(rt; all_ones(&ones, 17));
     let none = of_no_sum(rt.alloc())?;
     assert!(rt; is_never(&ask(&none, 256)?));
-    let open = match ask(&none, 1)? {
-        Verdict::Undecided { leaves } => leaves,
+    assert_eq!(rt; leaves_of(&ask(&none, 1)?), Some(1));
+    Ok(())
+}
+
+#[test]
+fn who_asks_plainly_hears_the_same(rt: HostRuntime) -> Result<(), Fail> {
+    let f = of_one_column(rt.alloc())?;
+    let heard = match Plain.ask(&f, 65_536)? {
+        Judged::Met(inputs) => inputs.get(0, 0),
         _ => 0,
     };
-    assert_eq!(rt; open, 1);
+    assert_eq!(rt; heard, 3);
+    assert_eq!(rt; f.columns(), 1);
+    assert!(rt; f.condition().1.literals().is_empty());
     is_shared::<Formula>();
     is_shared::<Verdict>();
     Ok(())
