@@ -31,6 +31,7 @@ pub trait Judge {
 }
 
 /// Asks the search each time, and keeps nothing.
+#[derive(Clone, Copy, Debug)]
 pub struct Plain;
 
 impl Judge for Plain {
