@@ -1,0 +1,11 @@
+-- The lemmas on verdicts.
+pub mod Ranks
+pub mod Stating
+pub mod Making
+pub mod Meeting
+pub mod Widest
+pub mod Wholly
+pub mod Splitting
+pub mod Answering
+pub mod Opening
+pub mod Found

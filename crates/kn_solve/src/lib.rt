@@ -1,0 +1,15 @@
+//! Questions on the inputs of a network, and what the search answers.
+#![tactic(auto)]
+
+mod asking;
+mod formula;
+mod judge;
+mod whole;
+
+pub use asking::{Verdict, ask};
+pub use formula::Formula;
+pub use judge::{Judge, Judged, Plain};
+pub use std::alloc::AllocError as Memory;
+
+#[cfg(test)]
+mod tests;
