@@ -17,7 +17,7 @@ abbrev none : Told
 none = record { node = 0; history = Done }
 
 -- only the histories below a place count
-entry-below : (ts us : List Told) (place : ℕ) (x : Entry) → NamesBelow place x → ((k : ℕ) → k < place → history_in ts k ≡ history_in us k) → entry_history ts x ≡ entry_history us x
+pub entry-below : (ts us : List Told) (place : ℕ) (x : Entry) → NamesBelow place x → ((k : ℕ) → k < place → history_in ts k ≡ history_in us k) → entry_history ts x ≡ entry_history us x
 entry-below ts us place (Ran e b) names same = refl
 entry-below ts us place (Got s c) names same = rw (same s.history names) refl
 

@@ -90,3 +90,52 @@ pub record HasNew (old new : GraphView) (s node before : ℕ) (entries : List En
   pub others : (k : ℕ) → k ≢ s → at new.states k ≡ at old.states k
   pub grows : Extends old.histories new.histories
   pub rest : new ≡ record old { states = new.states; histories = new.histories }
+
+-- a state as a graph keeps it: what is seen of it, and the numbers of the dstates that have it
+pub record Held : Type 0 where
+  pub known : KnownView
+  pub dstates : List ℕ
+
+-- what is seen of a state
+abbrev pub known_of : Held → KnownView
+known_of x = x.known
+
+-- what is seen of all states
+abbrev pub shown : List (Option Held) → List (Option KnownView)
+shown xs = map (option_map known_of) xs
+
+-- there is a state s, of node n
+abbrev pub IsStateOf : List (Option Held) → ℕ → ℕ → Type 0
+IsStateOf states n s = (x : Held) × (at states s ≡ Some x) × (x.known.node ≡ n)
+
+-- a column of node n: some states of it, none twice
+pub record IsColumn (states : List (Option Held)) (n : ℕ) (c : List ℕ) : Type 0 where
+  pub some : 0 < length c
+  pub once : AreDistinct c
+  pub known : (s : ℕ) → is_in s c ≡ true → IsStateOf states n s
+
+-- an inbox of node n: packets to it, rising
+pub record IsInbox (packets : List ℕ) (n : ℕ) (b : List ℕ) : Type 0 where
+  pub rise : AreRising b
+  pub sent : (k : ℕ) → is_in k b ≡ true → slice_get packets k ≡ Some n
+
+-- a dstate has a column and an inbox for each node
+pub record IsPlace (nodes : ℕ) (states : List (Option Held)) (packets : List ℕ) (p : PlaceView) : Type 0 where
+  pub columns_many : length p.columns ≡ nodes
+  pub inboxes_many : length p.inboxes ≡ nodes
+  pub columns : (n : ℕ) (c : List ℕ) → slice_get p.columns n ≡ Some c → IsColumn states n c
+  pub inboxes : (n : ℕ) (b : List ℕ) → slice_get p.inboxes n ≡ Some b → IsInbox packets n b
+
+-- a state has a history of its node, and knows its dstates
+pub record IsKnown (nodes : ℕ) (dstates : List (Option PlaceView)) (ts : List Told) (s : ℕ) (x : Held) : Type 0 where
+  pub node : x.known.node < nodes
+  pub history : IsHistoryOf ts x.known.node x.known.history
+  pub once : AreDistinct x.dstates
+  pub has : (d : ℕ) → is_in d x.dstates ≡ true → IsHeld dstates x.known.node s d
+  pub knows : (d : ℕ) → IsHeld dstates x.known.node s d → is_in d x.dstates ≡ true
+
+-- what holds of each graph
+pub record IsGraph (nodes : ℕ) (dstates : List (Option PlaceView)) (states : List (Option Held)) (rows : List Row) (packets : List ℕ) : Type 0 where
+  pub places : (d : ℕ) (p : PlaceView) → at dstates d ≡ Some p → IsPlace nodes states packets p
+  pub known : (s : ℕ) (x : Held) → at states s ≡ Some x → IsKnown nodes dstates (told rows) s x
+  pub table : IsTable rows

@@ -1,5 +1,5 @@
 -- A table of histories: each row is an earlier one with one more entry.
-use Rattle.std.specs.Prelude.{◌≡◌, ℕ, suc, ◌+◌, ◌<◌, Bool, List, [], ◌∷◌, length, Some, slice_get, slice_index_or}
+use Rattle.std.specs.Prelude.{◌≡◌, ℕ, suc, ◌+◌, ◌<◌, ◌≤◌, Bool, List, [], ◌∷◌, length, Some, slice_get, slice_index_or}
 use Rattle.std.specs.declared.cmp.Ordering.{Ordering}
 use Rattle.std.specs.declared.cmp.Ordering.TheVariants.{Less, Equal, Greater}
 use Rattle.std.specs.Ordering.{nat_cmp, bool_cmp, ordering_then}
@@ -73,6 +73,7 @@ IsPast rows n place (After before entry) = (before < place) × NamesBelow place 
 pub record IsTable (rows : List Row) : Type 0 where
   pub past : (place : ℕ) (row : Row) → slice_get rows place ≡ Some row → IsPast rows row.node place row.past
   pub count : (place : ℕ) (row : Row) → slice_get rows place ≡ Some row → row.count ≡ entry_count (history_in (told rows) place)
+  pub few : (place : ℕ) (row : Row) → slice_get rows place ≡ Some row → row.count ≤ place
 
 -- the order of two entries
 abbrev pub entry_cmp : List Told → Entry → Entry → Ordering

@@ -53,10 +53,11 @@ fn cmp_sent(a: &Stamp, copy: u8, b: &Stamp, other_copy: u8) -> Ordering
 }
 
 /// How many entries the history of a row has.
-fn count_of(rows: &[Row], place: usize) -> usize
+pub(crate) fn count_of(rows: &[Row], place: usize) -> usize
     requires table { IsTable rows.now }
     requires place { place < length rows.now }
-    ensures { result ≡ entry_count (history_in (told rows.now) place) }
+    ensures count { result ≡ entry_count (history_in (told rows.now) place) }
+    ensures few { result ≤ place }
 {
     rows[place].count
 }

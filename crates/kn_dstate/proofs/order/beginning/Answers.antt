@@ -12,7 +12,7 @@ pub returns-in-Nothing-clause-count : goal.returns-in-Nothing-clause-count
 returns-in-Nothing-clause-count c =
     let here : c.back.place < length c.args.rows.now = omega arith in
     let none = ap entry_count (starts c.args.rows.now c.back.place c.index-rows-place.result c.requires.table here c.in-Nothing.is) in
-    omega (arith, none, c.count_of.ensures)
+    omega (arith, none, c.count_of.ensures.count)
 
 pub back-smaller : goal.back-smaller
 back-smaller c =
@@ -28,5 +28,5 @@ back-preserved c =
     record {
       within = omega (arith, on.below);
       begins = (followed more rest, c.back.invariant.begins.1 ∙ (ap (λ h. followed h rest) on.history ∙ followed-assoc (history_in (told c.args.rows.now) c.in-After.before) more rest));
-      count = omega (arith, on.count, c.count_of.ensures);
+      count = omega (arith, on.count, c.count_of.ensures.count);
     }
