@@ -62,9 +62,9 @@ pushed rows new r place table past count few is end =
     let split : (k : ℕ) (x : Row) → slice_get new k ≡ Some x → (slice_get rows k ≡ Some x) ⊎ ((k ≡ length rows) × (x ≡ r)) = λ k x e. get_split rows r k x (subst (λ (l : List Row). slice_get l k ≡ Some x) is e) in
     let kept : (k : ℕ) (x : Row) → slice_get rows k ≡ Some x → history_in (told new) k ≡ history_in (told rows) k = λ k x h. let low = slice_get_within rows k x h in history_in-grown (told rows) (told new) k grows (omega (arith, low, size)) in
     let last_past : (k : ℕ) (x : Row) → (k ≡ length rows) × (x ≡ r) → IsPast new x.node k x.past = λ k x h.
-        subst (λ (y : Row). IsPast new y.node k y.past) (sym h.1) (subst (λ (j : ℕ). IsPast new r.node j r.past) (sym h.0) (IsPast-grown rows new r.node (length rows) r.past grows past)) in
+    subst (λ (y : Row). IsPast new y.node k y.past) (sym h.1) (subst (λ (j : ℕ). IsPast new r.node j r.past) (sym h.0) (IsPast-grown rows new r.node (length rows) r.past grows past)) in
     let last_count : (k : ℕ) (x : Row) → (k ≡ length rows) × (x ≡ r) → x.count ≡ entry_count (history_in (told new) k) = λ k x h.
-        ap (λ (y : Row). y.count) h.1 ∙ (count ∙ ap entry_count (sym (history_in-found (told new) k last (tells k h.0)))) in
+    ap (λ (y : Row). y.count) h.1 ∙ (count ∙ ap entry_count (sym (history_in-found (told new) k last (tells k h.0)))) in
     let last_few : (k : ℕ) (x : Row) → (k ≡ length rows) × (x ≡ r) → x.count ≤ k = λ k x h. omega (arith, ap (λ (y : Row). y.count) h.1, h.0, few) in
     record {
       table = record {
@@ -84,7 +84,7 @@ pushed_after rows new n before count place x table is names counted few eq end =
     let low = slice_get_within (told rows) before (record { node = n; history = is.0 }) is.1 in
     let low : before < length rows = omega (arith, low, length-built told_by rows) in
     pushed rows new (record { node = n; count = count + 1; past = After before x }) place table (low, names, is)
-        (omega (arith, counted, count-followed (history_in (told rows) before) (entry_history (told rows) x), count-entry (told rows) x)) (omega (arith, low, few)) eq end
+    (omega (arith, counted, count-followed (history_in (told rows) before) (entry_history (told rows) x), count-entry (told rows) x)) (omega (arith, low, few)) eq end
 
 -- how far the appending of entries has come
 pub record Extending (start rows : List Row) (n before last : ℕ) (rest all : List Entry) : Type 0 where

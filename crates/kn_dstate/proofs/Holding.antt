@@ -198,8 +198,8 @@ IsGraph-state nodes ds st new rows ps s n h g free there others low history =
         inboxes = old.inboxes;
       };
       known = λ k x e. elim (same_or k s) [
-        inl same ↦ subst (λ (j : ℕ). IsKnown nodes ds (told rows) j x) (sym same) (subst (IsKnown nodes ds (told rows) s) (some_same (at new s) fresh x there (ap (at new) (sym same) ∙ e)) known)
-      | inr other ↦ g.known k x (sym (others k other) ∙ e)
+        | inl same ↦ subst (λ (j : ℕ). IsKnown nodes ds (told rows) j x) (sym same) (subst (IsKnown nodes ds (told rows) s) (some_same (at new s) fresh x there (ap (at new) (sym same) ∙ e)) known)
+        | inr other ↦ g.known k x (sym (others k other) ∙ e)
       ];
       table = g.table;
     }
@@ -218,8 +218,7 @@ placed nodes ds st rows ps g s x b is same seen there some =
     let known = is.known s x there in
     let node : x.known.node ≡ (state g s).node = ap (λ (o : Option KnownView). (unwrap_or o (record { node = 0; history = 0; pinned = false })).node) (ap (option_map known_of) (sym there) ∙ (sym (at-shown st s) ∙ ap (λ (l : List (Option KnownView)). at l s) seen)) in
     let over : (d : ℕ) → IsHeld ds x.known.node s d → IsHeld g.dstates (state g s).node s d = λ d h. subst (λ (l : List (Option PlaceView)). IsHeld l (state g s).node s d) same (subst (λ (n : ℕ). IsHeld ds n s d) node h) in
-    let back : (d : ℕ) → IsHeld g.dstates (state g s).node s d → IsHeld ds x.known.node s d = λ d h. subst (λ (n : ℕ). IsHeld ds n s d) (sym node) (subst (λ (l : List (Option PlaceView)). IsHeld l (state g s).node s d) (sym same) h) in
-    (
+    let back : (d : ℕ) → IsHeld g.dstates (state g s).node s d → IsHeld ds x.known.node s d = λ d h. subst (λ (n : ℕ). IsHeld ds n s d) (sym node) (subst (λ (l : List (Option PlaceView)). IsHeld l (state g s).node s d) (sym same) h) in (
       λ t. let d = a_first x.dstates (some.0 t) in (d.0, over d.0 (known.has d.0 d.1)),
       λ h. some.1 (longer x.dstates h.0 (known.knows h.0 (back h.0 h.1))),
     )
@@ -227,6 +226,7 @@ placed nodes ds st rows ps g s x b is same seen there some =
     a_first : (xs : List ℕ) → 0 < length xs → (d : ℕ) × (is_in d xs ≡ true)
     a_first [] h = absurd (omega arith)
     a_first (d ∷ xs) h = (d, rw (eq-eqb d d refl) refl)
+
     longer : (xs : List ℕ) (d : ℕ) → is_in d xs ≡ true → 0 < length xs
     longer [] d e = absurd cc
     longer (y ∷ xs) d e = omega arith

@@ -31,7 +31,7 @@ history-row rows place d table h =
     let row = get_or rows place d in
     let step : history_in (told rows) place ≡ past_history (built told_by (take place rows)) row.past = ap (λ (t : Told). t.history) (built_at-row told_by none rows place d h) in
     step ∙ past-below rows (built told_by (take place rows)) (told rows) row.node place row.past (table.past place row (slice_get-get_or rows place d h))
-        (λ k low. ap (λ (t : Told). t.history) (built_at-before told_by none rows place k low (omega arith)))
+    (λ k low. ap (λ (t : Told). t.history) (built_at-before told_by none rows place k low (omega arith)))
 
 -- a row that goes on from an earlier one
 pub record GoesOn (rows : List Row) (place before : ℕ) (x : Entry) : Type 0 where

@@ -1,16 +1,16 @@
 //! Graphs.
 
-ghost use Rattle.std.specs.Prelude.{◌≡◌, ◌<◌, ◌↔◌, ◌++◌, [], ◌∷◌, length, map, slice_get, Some, IfOk, OnOk, OnErr, IsTrue, MatchOption};
+ghost use Rattle.std.specs.Prelude.{◌≡◌, ◌<◌, ◌≤◌, ◌^◌, true, ◌↔◌, ◌++◌, [], ◌∷◌, length, map, slice_get, Some, IfOk, OnOk, OnErr, IsTrue, MatchOption};
 ghost use Rattle.kn_packet.specs.Histories.{history_cmp};
 ghost use Rattle.kn_dstate.specs.Histories.{history_in, IsHistoryOf, AllNameBelow};
-ghost use Rattle.kn_dstate.specs.Places.{column, inbox};
+ghost use Rattle.kn_dstate.specs.Places.{column, inbox, holds, others, choices};
 ghost use Rattle.kn_dstate.specs.Graphs.{HasState, HasDstate, state, dstate, IsPlaced, IsOpened, HasNew, Keeps, IsLowest, NoneFrom};
 
 use crate::known::Known;
 use crate::number::{DstateNo, HistoryNo, PacketNo, StateNo};
 use crate::opening::{open_dstates, open_states};
 use crate::order::cmp_rows;
-use crate::place::Place;
+use crate::place::{Place, without};
 use crate::row::{Entry, Row};
 use crate::table::{extend, open_rows};
 use slab::Slab;
@@ -76,7 +76,9 @@ impl Graph {
         let alloc = *self.rows.allocator();
         self.states.reserve(1)?;
         let history = extend(&mut self.rows, node, parent.0, entries)?;
-        let key = self.states.insert_reserved(Known::new(alloc, node, history));
+        let key = self
+            .states
+            .insert_reserved(Known::new(alloc, node, history));
         Ok(StateNo(key))
     }
 
@@ -120,6 +122,26 @@ impl Graph {
         ensures { IsTrue result ↔ IsPlaced self.now s.0 }
     {
         self.states[s.0].is_placed()
+    }
+
+    /// The other states of a state's column in a dstate that has it. Err is want of memory.
+    pub fn rivals(&self, s: StateNo, d: DstateNo) -> Result<Vec<StateNo>, AllocError>
+        requires state { HasState self.now s.0 }
+        requires dstate { HasDstate self.now d.0 }
+        requires held { holds (state self.now s.0).node s.0 (dstate self.now d.0) ≡ true }
+        ensures { IfOk result (λ v. map (λ x. x.0) v.items ≡ others s.0 (column (dstate self.now d.0) (state self.now s.0).node)) }
+    {
+        let node = self.states[s.0].node as usize;
+        without(*self.rows.allocator(), self.dstates[d.0].column(node), s)
+    }
+
+    /// How many picks a dstate has: the product of how many states its columns have. None exactly where that is past the
+    /// greatest u128.
+    pub fn pick_count(&self, d: DstateNo) -> Option<u128>
+        requires { HasDstate self.now d.0 }
+        ensures { MatchOption result (2 ^ 128 ≤ choices (dstate self.now d.0).columns) (λ n. n ≡ choices (dstate self.now d.0).columns) }
+    {
+        self.dstates[d.0].pick_count()
     }
 
     /// The lowest state whose number is at least `least`. None exactly where there is none.

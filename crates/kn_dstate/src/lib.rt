@@ -14,3 +14,6 @@ pub use graph::Graph;
 pub use number::{DstateNo, HistoryNo, PacketNo, StateNo};
 pub use row::Entry;
 pub use std::alloc::AllocError as Memory;
+
+#[cfg(test)]
+mod tests;

@@ -27,12 +27,7 @@ pub(crate) fn open_rows(alloc: Global, nodes: u32) -> Result<Vec<Row>, AllocErro
 }
 
 /// Appends a history: an earlier one of the node, and then one more entry. Answers its place.
-fn push(
-    rows: &mut Vec<Row>,
-    node: u32,
-    before: usize,
-    entry: &Entry,
-) -> Result<usize, AllocError>
+fn push(rows: &mut Vec<Row>, node: u32, before: usize, entry: &Entry) -> Result<usize, AllocError>
     requires table { IsTable rows.old.items }
     requires before { IsHistoryOf (told rows.old.items) node before }
     requires names { NamesBelow (length rows.old.items) entry.now }

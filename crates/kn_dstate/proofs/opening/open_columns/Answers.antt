@@ -3,7 +3,6 @@ use Rattle.kn_dstate.specs.declared.number.StateNo.{StateNo}
 use Rattle.kn_dstate.proofs.Holding.{grown_each}
 use Rattle.kn_dstate.proofs.opening.open_columns.Goals as goal
 
-
 pub loop-node-preserved : goal.loop-node-preserved
 loop-node-preserved c =
     let v = c.in_ok-from_slice.field-0 in

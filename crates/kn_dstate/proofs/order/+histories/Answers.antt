@@ -58,5 +58,5 @@ pub cmp_rows-returns : goal.cmp_rows-returns
 cmp_rows-returns t c =
     let hs = told c.args.rows.now in
     let lengths = compared (history_in hs c.args.a) (history_in hs c.args.b) (history_in hs c.beginning-left.result) (history_in hs c.beginning-right.result) c.count_of-first.result c.count_of-second.result c.min-shared.result c.cmp_even.result
-        c.beginning-left.ensures.begins c.beginning-right.ensures.begins c.beginning-left.ensures.count c.beginning-right.ensures.count c.min-shared.ensures c.count_of-first.ensures.count c.count_of-second.ensures.count c.cmp_even.ensures in
+    c.beginning-left.ensures.begins c.beginning-right.ensures.begins c.beginning-left.ensures.count c.beginning-right.ensures.count c.min-shared.ensures c.count_of-first.ensures.count c.count_of-second.ensures.count c.cmp_even.ensures in
     cc (lengths, c.then.ensures, c.cmp.ensures)

@@ -27,4 +27,4 @@ pub returns-clause-tells : goal.returns-clause-tells
 returns-clause-tells c =
     let none : drop c.loop-entry.entry-index c.args.entries.now ≡ [] = drop_all c.loop-entry.entry-index c.args.entries.now c.loop-entry-test.false in
     extending_done c.args.rows.now.items c.loop-entry.rows.items c.args.node c.args.before c.loop-entry.last c.args.entries.now
-        (subst (λ (l : List Entry). Extending c.args.rows.now.items c.loop-entry.rows.items c.args.node c.args.before c.loop-entry.last l c.args.entries.now) none c.loop-entry.invariant)
+    (subst (λ (l : List Entry). Extending c.args.rows.now.items c.loop-entry.rows.items c.args.node c.args.before c.loop-entry.last l c.args.entries.now) none c.loop-entry.invariant)

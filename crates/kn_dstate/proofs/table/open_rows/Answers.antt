@@ -13,7 +13,7 @@ loop-node-preserved c =
     let rows = c.loop-node.rows.items in
     let so = pushed rows c.push.new.self.items (record { node = c.loop-node.node; count = 0; past = Nothing }) c.loop-node.node c.loop-node.invariant.table tt refl (omega arith) c.in_ok-push.ensures.items (sym c.loop-node.invariant.many) in
     let kept : (n : ℕ) → n < c.loop-node.node → slice_get (told c.push.new.self.items) n ≡ Some (record { node = n; history = Done }) = λ n low.
-        subst (λ (l : List Told). slice_get l n ≡ Some (record { node = n; history = Done })) (sym so.grows.1) (get_left (told rows) so.grows.0 n (record { node = n; history = Done }) (c.loop-node.invariant.each n low)) in
+    subst (λ (l : List Told). slice_get l n ≡ Some (record { node = n; history = Done })) (sym so.grows.1) (get_left (told rows) so.grows.0 n (record { node = n; history = Done }) (c.loop-node.invariant.each n low)) in
     record {
       table = so.table;
       many = omega (arith, ap length c.in_ok-push.ensures.items, length-append rows (record { node = c.loop-node.node; count = 0; past = Nothing } ∷ []), c.loop-node.invariant.many);

@@ -7,4 +7,4 @@ pub returns : goal.returns
 returns c =
     let inside = c.self.inside in
     placed inside.nodes inside.dstates.slots inside.states.slots inside.rows.items inside.packets.items c.args.self.now c.args.s.0 c.index.result.now c.is_placed.result c.self.invariant
-        (ap (λ (g : GraphView). g.dstates) c.self.view_is) (ap (λ (g : GraphView). g.states) c.self.view_is) c.index.ensures c.is_placed.ensures
+    (ap (λ (g : GraphView). g.dstates) c.self.view_is) (ap (λ (g : GraphView). g.states) c.self.view_is) c.index.ensures c.is_placed.ensures

@@ -16,9 +16,9 @@ rows c = let of = c.in_ok-open_rows.ensures in record { table = of.table; many =
 pub invariant_of-result : goal.invariant_of-result
 invariant_of-result c =
     subst (λ (l : List ℕ). IsGraph c.args.nodes c.in_ok-open_dstates.field-0.slots c.in_ok-open_states.field-0.slots c.in_ok-open_rows.field-0.items l) (sym c.new.ensures.items)
-        (opened_graph c.args.nodes c.in_ok-open_dstates.field-0.slots c.in_ok-open_states.field-0.slots c.in_ok-open_rows.field-0.items (dstates c) (states c) (rows c))
+    (opened_graph c.args.nodes c.in_ok-open_dstates.field-0.slots c.in_ok-open_states.field-0.slots c.in_ok-open_rows.field-0.items (dstates c) (states c) (rows c))
 
 pub returns : goal.returns
 returns c =
     subst (λ (l : List ℕ). IsOpened c.args.nodes (record { nodes = c.args.nodes; dstates = c.in_ok-open_dstates.field-0.slots; states = shown c.in_ok-open_states.field-0.slots; histories = told c.in_ok-open_rows.field-0.items; packets = l })) (sym c.new.ensures.items)
-        (opened_view c.args.nodes c.in_ok-open_dstates.field-0.slots c.in_ok-open_states.field-0.slots c.in_ok-open_rows.field-0.items (dstates c) (states c) (rows c))
+    (opened_view c.args.nodes c.in_ok-open_dstates.field-0.slots c.in_ok-open_states.field-0.slots c.in_ok-open_rows.field-0.items (dstates c) (states c) (rows c))
