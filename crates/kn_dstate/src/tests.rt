@@ -1,5 +1,8 @@
 //! Each call on a graph of three nodes, and the order of histories.
 
+ghost use Rattle.std.specs.Prelude.{ℕ, IfOk};
+ghost use Rattle.kn_dstate.specs.Histories.{NamesBelow};
+
 use super::*;
 use kn_packet::{Event, Stamp};
 use kn_trace::Trace;
@@ -27,7 +30,9 @@ fn reads_a_new_graph(rt: HostRuntime) -> Result<(), Fail> {
 }
 
 /// An event with these bits.
-fn ran(rt: &HostRuntime, event: Event, bits: &[bool]) -> Result<Entry, Fail> {
+fn ran(rt: &HostRuntime, event: Event, bits: &[bool]) -> Result<Entry, Fail>
+    ensures { IfOk result (λ e. (n : ℕ) → NamesBelow n e) }
+{
     let mut trace = Trace::new(rt.alloc());
     for bit in bits {
         trace.push(*bit)?;
