@@ -1,9 +1,9 @@
 -- A table of histories that grows at its end.
-use Rattle.std.proofs.Common.{◌≡◌, ℕ, zero, suc, ◌+◌, ◌<◌, ◌≤◌, List, [], ◌∷◌, ◌++◌, length, get_or, drop, refl, ap, subst, sym, ◌∙◌, arith, Some, inl, inr, length-append, ◌⊎◌}
+use Rattle.std.proofs.Common.{◌≡◌, ℕ, zero, suc, ◌+◌, ◌<◌, ◌≤◌, List, [], ◌∷◌, ◌++◌, length, refl, ap, subst, sym, ◌∙◌, arith, Some, inl, inr, length-append, ◌⊎◌}
 use Rattle.std.specs.Prelude.{slice_get}
 use Rattle.std.proofs.lemmas.Option.{slice_get-get_or, slice_get_within, get_or_from_slice_get}
 use Rattle.std.proofs.lemmas.List.{get_or_push, get_or_append_left}
-use Rattle.kn_built.specs.Built.{built, Extends}
+use Rattle.kn_built.specs.Built.{Extends}
 use Rattle.kn_built.proofs.BuiltLaws.{built-snoc, length-built, extends-same, extends-twice, length-extends}
 use Rattle.kn_packet.specs.Histories.{History, Done, followed}
 use Rattle.kn_dstate.specs.declared.row.Entry.{Entry}

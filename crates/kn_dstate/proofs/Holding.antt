@@ -1,15 +1,15 @@
 -- What holds of a graph, new and changed.
-use Rattle.std.proofs.Common.{◌≡◌, ◌≢◌, ℕ, zero, suc, ◌+◌, ◌<◌, ◌≤◌, Bool, true, false, cond, not, List, [], ◌∷◌, ◌++◌, length, map, get_or, refl, ap, subst, sym, ◌∙◌, arith, Some, None, Option, inl, inr, length-append, below_more, IsTrue, eq-eqb}
+use Rattle.std.proofs.Common.{◌≡◌, ◌≢◌, ℕ, zero, suc, ◌+◌, ◌<◌, ◌≤◌, Bool, true, false, cond, List, [], ◌∷◌, ◌++◌, length, map, get_or, refl, ap, subst, sym, ◌∙◌, arith, Some, None, Option, inl, inr, below_more, IsTrue, eq-eqb}
 use Rattle.std.specs.Prelude.{slice_get, ◌⊎◌, IsSome, option_map, unwrap_or, is_some, ◌||◌, ◌↔◌, nat_eq}
 use Rattle.std.proofs.lemmas.Bool.{eqb-true}
 use Rattle.std.proofs.lemmas.List.{map-append, length-map}
-use Rattle.std.proofs.lemmas.Option.{slice_get-get_or, slice_get_within, get_or_from_slice_get}
+use Rattle.std.proofs.lemmas.Option.{slice_get_within, get_or_from_slice_get}
 use Rattle.kn_built.specs.Built.{Extends}
-use Rattle.kn_packet.specs.Histories.{History, Done, followed}
+use Rattle.kn_packet.specs.Histories.{Done, followed}
 use Rattle.kn_dstate.specs.declared.row.Entry.{Entry}
 use Rattle.kn_dstate.specs.declared.row.Row.{Row}
-use Rattle.kn_dstate.specs.Histories.{Told, told, history_in, entries_history, IsHistoryOf, IsTable}
-use Rattle.kn_dstate.specs.Places.{PlaceView, column, times, is_in, holds, AreDistinct, AreRising}
+use Rattle.kn_dstate.specs.Histories.{told, history_in, entries_history, IsHistoryOf, IsTable}
+use Rattle.kn_dstate.specs.Places.{PlaceView, is_in, holds, AreDistinct}
 use Rattle.kn_dstate.specs.Graphs.{KnownView, GraphView, at, state, IsHeld, IsPlaced, IsLowest, NoneFrom, IsOpened, HasNew, Held, known_of, shown, IsStateOf, IsColumn, IsInbox, IsPlace, IsKnown, IsGraph}
 use Rattle.kn_dstate.proofs.Growing.{get_left, get_last, IsHistoryOf-grown}
 

@@ -1,10 +1,9 @@
 -- What the rows of a table tell.
-use Rattle.std.proofs.Common.{◌≡◌, ℕ, ◌+◌, ◌<◌, ◌≤◌, List, [], ◌∷◌, ◌++◌, length, get_or, take, zero, suc, refl, ap, subst, sym, ◌∙◌, arith, Some}
-use Rattle.std.specs.Prelude.{slice_get}
+use Rattle.std.proofs.Common.{◌≡◌, ℕ, ◌<◌, ◌≤◌, List, length, get_or, take, suc, refl, ap, subst, ◌∙◌, arith}
 use Rattle.std.proofs.lemmas.Option.{slice_get-get_or}
-use Rattle.kn_built.specs.Built.{built, built_at}
+use Rattle.kn_built.specs.Built.{built}
 use Rattle.kn_built.proofs.BuiltLaws.{built_at-row, built_at-before}
-use Rattle.kn_packet.specs.Histories.{History, Done, followed}
+use Rattle.kn_packet.specs.Histories.{Done, followed}
 use Rattle.kn_dstate.specs.declared.row.Entry.{Entry}
 use Rattle.kn_dstate.specs.declared.row.Entry.TheVariants.{Ran, Got}
 use Rattle.kn_dstate.specs.declared.row.Past.{Past}

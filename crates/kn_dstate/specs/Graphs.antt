@@ -1,7 +1,7 @@
 -- A graph: dstates, states, histories and packets, each under its number.
-use Rattle.std.specs.Prelude.{◌≡◌, ◌≢◌, ℕ, ◌+◌, ◌<◌, ◌≤◌, Bool, true, false, List, [], ◌∷◌, ◌++◌, map, length, Option, None, Some, IsSome, option_map, unwrap_or, slice_get, slice_index_or, ◌⊎◌, ◌↔◌}
+use Rattle.std.specs.Prelude.{◌≡◌, ◌≢◌, ℕ, ◌<◌, ◌≤◌, Bool, true, false, List, [], ◌∷◌, map, length, Option, None, Some, IsSome, option_map, unwrap_or, slice_get, slice_index_or}
 use Rattle.kn_built.specs.Built.{Extends}
-use Rattle.kn_packet.specs.Histories.{History, Done, followed}
+use Rattle.kn_packet.specs.Histories.{Done, followed}
 use Rattle.kn_dstate.specs.declared.row.Entry.{Entry}
 use Rattle.kn_dstate.specs.declared.row.Row.{Row}
 use Rattle.kn_dstate.specs.Histories.{Told, told, history_in, entries_history, IsHistoryOf, IsTable}

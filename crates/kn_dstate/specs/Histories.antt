@@ -1,11 +1,8 @@
 -- A table of histories: each row is an earlier one with one more entry.
-use Rattle.std.specs.Prelude.{◌≡◌, ℕ, suc, ◌+◌, ◌<◌, ◌≤◌, Bool, List, [], ◌∷◌, length, Some, slice_get, slice_index_or}
+use Rattle.std.specs.Prelude.{◌≡◌, ℕ, suc, ◌<◌, ◌≤◌, List, [], ◌∷◌, Some, slice_get, slice_index_or}
 use Rattle.std.specs.declared.cmp.Ordering.{Ordering}
-use Rattle.std.specs.declared.cmp.Ordering.TheVariants.{Less, Equal, Greater}
-use Rattle.std.specs.Ordering.{nat_cmp, bool_cmp, ordering_then}
-use Rattle.std.specs.Cmp.Lexicographic.{slice_cmp}
 use Rattle.kn_built.specs.Built.{built}
-use Rattle.kn_packet.specs.Histories.{History, Done, AndRan, AndGot, followed, event_cmp, history_cmp}
+use Rattle.kn_packet.specs.Histories.{History, Done, AndRan, AndGot, followed, history_cmp}
 use Rattle.kn_dstate.specs.declared.row.Entry.{Entry}
 use Rattle.kn_dstate.specs.declared.row.Entry.TheVariants.{Ran, Got}
 use Rattle.kn_dstate.specs.declared.row.Past.{Past}

@@ -17,6 +17,8 @@ fn reads_a_new_graph(rt: HostRuntime) -> Result<(), Fail> {
     assert_eq!(rt; graph.node(StateNo(2)), 2);
     assert_eq!(rt; graph.history(StateNo(2)).0, 2);
     assert!(rt; graph.is_placed(StateNo(0)));
+    assert!(rt; graph.pick_count(DstateNo(0)) == Some(1));
+    assert!(rt; graph.rivals(StateNo(1), DstateNo(0))?.is_empty());
     assert!(rt; graph.state_from(1) == Some(StateNo(1)) && graph.state_from(3).is_none());
     assert!(rt; graph.dstate_from(0) == Some(DstateNo(0)) && graph.dstate_from(1).is_none());
     assert_eq!(rt;
@@ -47,5 +49,8 @@ fn adds_a_state(rt: HostRuntime) -> Result<(), Fail> {
     let state = graph.new_state(1, HistoryNo(1), &[boot])?;
     assert_eq!(rt; graph.node(state), 1);
     assert!(rt; !graph.is_placed(state));
+    let history = graph.history(state);
+    assert_eq!(rt; graph.cmp_history(HistoryNo(1), history), Ordering::Less);
+    assert_eq!(rt; graph.cmp_history(history, HistoryNo(0)), Ordering::Greater);
     Ok(())
 }

@@ -1,4 +1,4 @@
-use Rattle.std.proofs.Common.{◌≡◌, ℕ, ◌∷◌, [], ap, arith, length, length-append, map, List, Vec, Global}
+use Rattle.std.proofs.Common.{◌≡◌, ◌∷◌, [], ap, arith, length, length-append, map, Vec, Global}
 use Rattle.kn_dstate.specs.declared.number.PacketNo.{PacketNo}
 use Rattle.kn_dstate.proofs.Holding.{grown_each}
 use Rattle.kn_dstate.proofs.opening.open_inboxes.Goals as goal

@@ -1,4 +1,4 @@
-use Rattle.std.proofs.Common.{◌≡◌, ℕ, ◌<◌, length, Some, [], ◌∷◌, map}
+use Rattle.std.proofs.Common.{◌≡◌, ℕ, ◌<◌, length, Some, [], map}
 use Rattle.std.specs.Prelude.{slice_get}
 use Rattle.kn_dstate.proofs.opening.open_inboxes.Given as goal
 

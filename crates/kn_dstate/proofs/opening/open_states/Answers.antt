@@ -1,4 +1,4 @@
-use Rattle.std.proofs.Common.{◌≡◌, ℕ, ◌<◌, ◌≤◌, List, Some, None, Option, [], ◌∷◌, false, ap, subst, sym, ◌∙◌, arith, below_more}
+use Rattle.std.proofs.Common.{◌≡◌, ℕ, List, Some, Option, ap, sym, ◌∙◌, arith, below_more}
 use Rattle.slab.specs.Slab.{Slab}
 use Rattle.kn_dstate.specs.Graphs.{at, Held}
 use Rattle.kn_dstate.proofs.Holding.{first}

@@ -2,7 +2,7 @@ use Rattle.std.proofs.Common.{◌≡◌, ◌<◌, ap, sym, ◌∙◌, arith, len
 use Rattle.std.specs.declared.cmp.Ordering.{Ordering}
 use Rattle.std.specs.Ordering.{ordering_then}
 use Rattle.kn_packet.specs.Histories.{history_cmp}
-use Rattle.kn_dstate.specs.Histories.{history_in, told, entry_count, entry_history}
+use Rattle.kn_dstate.specs.Histories.{history_in, told, entry_count}
 use Rattle.kn_dstate.proofs.Orders.{nothing_left, further, compared, count-none}
 use Rattle.kn_dstate.proofs.Rows.{goes_on, starts, NamesBelow-weaker}
 use Rattle.kn_dstate.proofs.order.+histories.Goals as goal

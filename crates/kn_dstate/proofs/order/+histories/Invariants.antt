@@ -1,4 +1,4 @@
-use Rattle.std.proofs.Common.{◌≡◌, ◌+◌, ◌*◌, ◌≤◌, length}
+use Rattle.std.proofs.Common.{◌≡◌, ◌+◌, ◌*◌, ◌≤◌}
 use Rattle.std.specs.Ordering.{ordering_then}
 use Rattle.kn_packet.specs.Histories.{history_cmp}
 use Rattle.kn_dstate.specs.Histories.{history_in, told, entry_count}

@@ -1,4 +1,4 @@
-use Rattle.std.proofs.Common.{◌≡◌, ◌<◌, ap, sym, ◌∙◌, arith, length}
+use Rattle.std.proofs.Common.{◌<◌, ap, sym, ◌∙◌, arith, length}
 use Rattle.kn_packet.specs.Histories.{Done, followed}
 use Rattle.kn_dstate.specs.Histories.{history_in, told, entry_count, entry_history}
 use Rattle.kn_dstate.proofs.Orders.{followed-none, followed-assoc}

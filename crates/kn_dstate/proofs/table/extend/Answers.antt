@@ -1,7 +1,6 @@
-use Rattle.std.proofs.Common.{◌≡◌, ◌+◌, ◌∷◌, [], ap, sym, ◌∙◌, arith, length, List, subst, drop}
+use Rattle.std.proofs.Common.{◌≡◌, ◌+◌, ◌∷◌, [], ap, sym, ◌∙◌, length, List, subst, drop}
 use Rattle.std.proofs.lemmas.List.{drop_more, drop_all}
 use Rattle.kn_dstate.specs.declared.row.Entry.{Entry}
-use Rattle.kn_dstate.specs.Histories.{NamesBelow}
 use Rattle.kn_dstate.proofs.Rows.{NamesBelow-weaker}
 use Rattle.kn_dstate.proofs.Growing.{Extending, extending_first, extending_more, extending_done, names_weaker}
 use Rattle.kn_dstate.proofs.table.extend.Goals as goal

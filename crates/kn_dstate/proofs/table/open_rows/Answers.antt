@@ -1,11 +1,10 @@
-use Rattle.std.proofs.Common.{◌≡◌, ℕ, ◌+◌, ◌<◌, List, [], ◌∷◌, ◌++◌, length, ap, sym, ◌∙◌, arith, subst, refl, below_more, Some, length-append}
+use Rattle.std.proofs.Common.{◌≡◌, ℕ, ◌<◌, List, [], ◌∷◌, length, ap, sym, arith, subst, refl, below_more, Some, length-append}
 use Rattle.std.specs.Prelude.{slice_get}
 use Rattle.kn_built.proofs.BuiltLaws.{length-built}
 use Rattle.kn_packet.specs.Histories.{Done}
 use Rattle.kn_dstate.specs.declared.row.Past.TheVariants.{Nothing}
-use Rattle.kn_dstate.specs.declared.row.Row.{Row}
-use Rattle.kn_dstate.specs.Histories.{Told, told, told_by, IsTable}
-use Rattle.kn_dstate.proofs.Growing.{pushed, Pushed, get_left}
+use Rattle.kn_dstate.specs.Histories.{Told, told, told_by}
+use Rattle.kn_dstate.proofs.Growing.{pushed, get_left}
 use Rattle.kn_dstate.proofs.table.open_rows.Goals as goal
 
 pub loop-node-preserved : goal.loop-node-preserved

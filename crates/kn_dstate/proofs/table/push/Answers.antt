@@ -1,4 +1,4 @@
-use Rattle.std.proofs.Common.{◌≡◌, ap, sym, ◌∙◌, arith, rules, length, ◌<◌, ◌+◌, ◌++◌, ◌∷◌, [], List}
+use Rattle.std.proofs.Common.{◌≡◌, ap, ◌∙◌, arith, rules, length, ◌+◌, ◌++◌, ◌∷◌, [], List}
 use Rattle.std.proofs.lemmas.Option.{slice_get_within}
 use Rattle.kn_built.proofs.BuiltLaws.{length-built}
 use Rattle.kn_dstate.specs.declared.row.Entry.{Entry}

@@ -1,7 +1,7 @@
 use Rattle.std.proofs.Common.{◌≡◌, ◌≢◌, ◌<◌, ℕ, List, Some, None, Option, [], false, length, ap, sym, subst, ◌∙◌, arith}
 use Rattle.slab.specs.Slab.{Slab}
 use Rattle.kn_built.proofs.BuiltLaws.{length-built}
-use Rattle.kn_dstate.specs.Histories.{told, told_by, AllNameBelow, IsHistoryOf}
+use Rattle.kn_dstate.specs.Histories.{told_by, AllNameBelow}
 use Rattle.kn_dstate.specs.Graphs.{GraphView, IsGraph, Held, at}
 use Rattle.kn_dstate.proofs.Holding.{IsGraph-rows, IsGraph-state, has_new}
 use Rattle.kn_dstate.proofs.graph.Graph.new_state.Goals as goal
