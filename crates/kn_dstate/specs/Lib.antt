@@ -1,0 +1,5 @@
+-- The definitions of dstates, histories and the graph.
+pub mod HistoryCode
+pub mod Histories
+pub mod Places
+pub mod Graphs

@@ -1,0 +1,19 @@
+//! Dstates over numbers: columns of states, inboxes of packets, and the histories of states.
+#![tactic(auto)]
+
+mod graph;
+mod known;
+mod number;
+mod opening;
+mod order;
+mod place;
+mod row;
+mod table;
+
+pub use graph::Graph;
+pub use number::{DstateNo, HistoryNo, PacketNo, StateNo};
+pub use row::Entry;
+pub use std::alloc::AllocError as Memory;
+
+#[cfg(test)]
+mod tests;
