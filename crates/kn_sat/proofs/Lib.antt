@@ -4,6 +4,8 @@ pub mod Values
 pub mod Numbers
 pub mod Positions
 pub mod Lines
+pub mod Marks
+pub mod Resting
 pub mod Flips
 pub mod Counts
 pub mod Clauses

@@ -9,7 +9,7 @@ use Rattle.kn_cnf.specs.Units.{valued, lit_value}
 use Rattle.kn_sat.specs.declared.trail.Assigned.{Assigned}
 use Rattle.kn_sat.specs.declared.trail.Reason.{Reason}
 use Rattle.kn_sat.specs.declared.trail.Reason.TheVariants as reasons
-use Rattle.kn_sat.specs.Trails.{onto, AreOpened, IsReason, IsTrail}
+use Rattle.kn_sat.specs.Trails.{onto, AreOpened, IsReason, IsTrail, IsLink}
 
 -- an assignment with one literal more
 pub valued_own : (ls : List Lit) (l : Lit) → valued (l ∷ ls) l.var ≡ Some (not l.neg)
@@ -70,6 +70,10 @@ opened_front n ls (d ∷ ds) e a = let rest = opened_front n (d.literal ∷ ls) 
 pub reason_opens : (cs : List (List Lit)) (n : ℕ) (ls : List Lit) (l : Lit) (r : Reason) → IsReason cs n ls l r → valued ls l.var ≡ None
 reason_opens cs n ls l reasons.Decision d = d.opens
 reason_opens cs n ls l (reasons.Clause h) u = var_opens ls l (u.2).opens
+
+pub link_opens : (cs : List (List Lit)) (ls : List Lit) (l : Lit) (r : Reason) → IsLink cs ls l r → valued ls l.var ≡ None
+link_opens cs ls l reasons.Decision d = d.1
+link_opens cs ls l (reasons.Clause h) u = var_opens ls l (u.2).opens
 
 -- what is assigned stays so along the trail
 pub onto_kept : (cs : List (List Lit)) (n : ℕ) (ls : List Lit) (es : List Assigned) (q : ℕ) (b : Bool) → IsTrail cs n ls es → valued ls q ≡ Some b → valued (onto ls es) q ≡ Some b

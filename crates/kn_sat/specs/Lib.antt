@@ -2,5 +2,6 @@
 pub mod Trails
 pub mod Propagating
 pub mod Occurrences
+pub mod Resting
 pub mod Order
 pub mod Answers

@@ -1,8 +1,8 @@
 -- Literals that are assigned true, in the order of their assignment.
-use Rattle.std.specs.Prelude.{◌≡◌, ◌<◌, ◌≤◌, ◌+◌, ⊤, ℕ, zero, suc, Bool, true, false, List, [], ◌∷◌, ◌++◌, slice_get, slice_index_or, length, Some, None, unwrap_or}
+use Rattle.std.specs.Prelude.{◌≡◌, ◌⊎◌, ◌<◌, ◌≤◌, ◌+◌, ⊤, ℕ, zero, suc, Bool, true, false, List, [], ◌∷◌, ◌++◌, slice_get, slice_index_or, length, Some, None, unwrap_or}
 use Rattle.std.specs.declared.option.Option.{Option}
 use Rattle.kn_cnf.specs.declared.clauses.Lit.{Lit}
-use Rattle.kn_cnf.specs.Units.{negated, valued, IsUnit}
+use Rattle.kn_cnf.specs.Units.{negated, valued, Has, IsUnit}
 use Rattle.kn_sat.specs.declared.trail.Assigned.{Assigned}
 use Rattle.kn_sat.specs.declared.trail.Reason.{Reason}
 use Rattle.kn_sat.specs.declared.trail.Reason.TheVariants as reasons
@@ -47,6 +47,16 @@ abbrev pub IsTrail : List (List Lit) → ℕ → List Lit → List Assigned → 
 IsTrail cs n ls [] = ⊤
 IsTrail cs n ls (e ∷ es) = IsReason cs n ls e.literal e.reason × IsTrail cs n (e.literal ∷ ls) es
 
+-- why the literal may be true behind these: it is the negation of an open variable, or the open literal of a unit clause
+abbrev pub IsLink : List (List Lit) → List Lit → Lit → Reason → Type 0
+IsLink cs ls l reasons.Decision = (l.neg ≡ true) × (valued ls l.var ≡ None)
+IsLink cs ls l (reasons.Clause h) = (c : List Lit) × (slice_get cs h ≡ Some c) × IsUnit ls c l
+
+-- each literal may be true behind the ones before it
+abbrev pub IsChain : List (List Lit) → List Lit → List Assigned → Type 0
+IsChain cs ls [] = ⊤
+IsChain cs ls (e ∷ es) = IsLink cs ls e.literal e.reason × IsChain cs (e.literal ∷ ls) es
+
 -- the negations of the decisions
 abbrev pub with_decision : Reason → Lit → List Lit → List Lit
 with_decision reasons.Decision l rest = negated l ∷ rest
@@ -86,13 +96,24 @@ pub record IsGrown (cs : List (List Lit)) (vars : ℕ) (old new : List Assigned)
   pub count : count_open vars (latest new) + length new ≡ count_open vars (latest old) + length old
   pub longer : length old ≤ length new
 
--- the latest decision, of this variable, was taken back with all behind it, and its negation assigned by the clause with
--- this number
-pub record IsFlipped (old new : List Assigned) (clause var : ℕ) : Type 0 where
+-- the literal at a place was taken back with all behind it, and its negation assigned by the clause with this number
+pub record IsTurned (old new : List Assigned) (place clause var : ℕ) : Type 0 where
+  pub front : List Assigned
+  pub entry : Assigned
+  pub back : List Assigned
+  pub was : old ≡ front ++ entry ∷ back
+  pub long : length front ≡ place
+  pub is : new ≡ front ++ record { literal = negated entry.literal; reason = reasons.Clause clause } ∷ []
+  pub own : (entry.literal).var ≡ var
+
+-- a decision, of this variable, was taken back with all behind it, and its negation assigned by the clause with this number:
+-- these literals are that negation, and negations of decisions before it
+pub record IsFlipped (old new : List Assigned) (line : List Lit) (clause var : ℕ) : Type 0 where
   pub front : List Assigned
   pub literal : Lit
   pub back : List Assigned
   pub was : old ≡ front ++ record { literal = literal; reason = reasons.Decision } ∷ back
   pub is : new ≡ front ++ record { literal = negated literal; reason = reasons.Clause clause } ∷ []
-  pub last : undecided back ≡ []
+  pub has : Has line (negated literal)
+  pub others : (m : Lit) → Has line m → (m ≡ negated literal) ⊎ Has (undecided front) m
   pub own : literal.var ≡ var

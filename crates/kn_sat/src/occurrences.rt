@@ -7,11 +7,10 @@ use kn_cnf::{Clause, Lit};
 use std::alloc::{AllocError, Global};
 use std::marker::Model;
 
-/// The numbers of the clauses in which each literal stands, and of those that may be unit by themselves. It serves speed
-/// alone: what it left out, a visit of all clauses would find.
+/// The numbers of the clauses in which each literal stands. It serves speed alone: what it left out, a visit of all clauses
+/// would find.
 #[derive(Debug, Drop)]
 pub(crate) struct Occurrences {
-    short: Vec<usize>,
     positive: Vec<Vec<usize>>,
     negative: Vec<Vec<usize>>,
     clauses: usize,
@@ -24,7 +23,7 @@ impl Model for Occurrences {
 
     ghost view = { λ o. record { clauses = o.clauses } };
 
-    ghost invariant = { λ o. AreLower o.clauses o.short.items × AreWithin o.clauses o.positive.items × AreWithin o.clauses o.negative.items };
+    ghost invariant = { λ o. AreWithin o.clauses o.positive.items × AreWithin o.clauses o.negative.items };
 }
 
 impl Occurrences {
@@ -36,31 +35,16 @@ impl Occurrences {
     ) -> Result<Occurrences, AllocError>
         ensures { IfOk result (λ o. o.clauses ≡ length clauses.now) }
     {
-        let mut short = Vec::new(alloc);
         let mut positive = empty_lists(alloc, vars)?;
         let mut negative = empty_lists(alloc, vars)?;
         for (number, clause) in clauses.iter().enumerate() {
-            put_short(&mut short, clause, number)?;
             put_clause(&mut positive, &mut negative, clause, number)?;
         }
         Ok(Occurrences {
-            short,
             positive,
             negative,
             clauses: clauses.len(),
         })
-    }
-
-    /// The numbers of the clauses to visit before the literal at this place of a trail: at the first place, those that may be
-    /// unit by themselves.
-    pub(crate) fn before(&self, place: usize) -> &[usize]
-        ensures { AreLower self.now.clauses result.now }
-    {
-        if place == 0 {
-            self.short.as_slice()
-        } else {
-            &[]
-        }
     }
 
     /// The numbers of the clauses in which the literal stands.
@@ -88,16 +72,6 @@ fn empty_lists(alloc: Global, count: usize) -> Result<Vec<Vec<usize>>, AllocErro
         lists.push(Vec::new(alloc))?;
     }
     Ok(lists)
-}
-
-/// Puts the number of a clause of fewer than two literals.
-fn put_short(short: &mut Vec<usize>, clause: &[Lit], number: usize) -> Result<(), AllocError>
-    ensures { OnOk result (AreLower number short.old.items → AreLower (number + 1) short.new.items) }
-{
-    if clause.len() < 2 {
-        short.push(number)?;
-    }
-    Ok(())
 }
 
 /// Puts the number of a clause into the list of each of its literals.

@@ -62,35 +62,6 @@ fn visit_each(
     Ok(None)
 }
 
-/// Visits the clauses in which a literal became false, for each literal of the trail from this place on, and before the
-/// first one the clauses that may be unit by themselves. The answer is the number of the first false clause.
-fn follow(
-    trail: &mut Trail,
-    clauses: &[Clause],
-    occurrences: &Occurrences,
-    from: usize,
-) -> Result<Option<usize>, AllocError>
-    requires below { AreBelow trail.old.vars (map items_of clauses.now) }
-    requires count { occurrences.now.clauses ≡ length clauses.now }
-    ensures vars { trail.new.vars ≡ trail.old.vars }
-    ensures grown { OnOk result (IsGrown (map items_of clauses.now) trail.old.vars trail.old.entries trail.new.entries) }
-    ensures conflict { IfOk result (λ o. IfSome o (IsConflict (map items_of clauses.now) trail.new.entries)) }
-{
-    if let Some(number) = visit_each(trail, clauses, occurrences.before(from))? {
-        return Ok(Some(number));
-    }
-    let mut head = from;
-    while head < trail.entries().len() {
-        let literal = trail.entries()[head].literal;
-        let numbers = occurrences.of(literal.negated());
-        if let Some(number) = visit_each(trail, clauses, numbers)? {
-            return Ok(Some(number));
-        }
-        head += 1;
-    }
-    Ok(None)
-}
-
 /// What a visit of all clauses met.
 #[derive(Clone, Copy, Debug)]
 enum Scan {
@@ -118,6 +89,38 @@ fn visit_all(trail: &mut Trail, clauses: &[Clause]) -> Result<Scan, AllocError>
         }
     }
     Ok(if calm { Scan::Calm } else { Scan::Grown })
+}
+
+/// Visits the clauses in which a literal became false, for each literal of the trail from this place on, and before the
+/// first one all clauses, so that those which are unit by themselves come before any decision. The answer is the number of
+/// the first false clause.
+fn follow(
+    trail: &mut Trail,
+    clauses: &[Clause],
+    occurrences: &Occurrences,
+    from: usize,
+) -> Result<Option<usize>, AllocError>
+    requires below { AreBelow trail.old.vars (map items_of clauses.now) }
+    requires count { occurrences.now.clauses ≡ length clauses.now }
+    ensures vars { trail.new.vars ≡ trail.old.vars }
+    ensures grown { OnOk result (IsGrown (map items_of clauses.now) trail.old.vars trail.old.entries trail.new.entries) }
+    ensures conflict { IfOk result (λ o. IfSome o (IsConflict (map items_of clauses.now) trail.new.entries)) }
+{
+    if from == 0 {
+        if let Scan::Conflict(number) = visit_all(trail, clauses)? {
+            return Ok(Some(number));
+        }
+    }
+    let mut head = from;
+    while head < trail.entries().len() {
+        let literal = trail.entries()[head].literal;
+        let numbers = occurrences.of(literal.negated());
+        if let Some(number) = visit_each(trail, clauses, numbers)? {
+            return Ok(Some(number));
+        }
+        head += 1;
+    }
+    Ok(None)
 }
 
 /// The first input that is open, where those before this one are assigned.

@@ -72,13 +72,14 @@ fn run(
 {
     let occurrences = Occurrences::new(alloc, vars, clauses)?;
     let mut trail = Trail::new(alloc, vars)?;
+    let mut marks = vec![in alloc; false; vars]?;
     let mut lines: Vec<Line> = Vec::new(alloc);
     let mut leaves = 0;
     let mut next = 0;
     'search: loop {
         match settle(&mut trail, clauses, &occurrences, inputs, next)? {
             Settled::Conflict(number) => {
-                let Some(var) = close(&mut trail, clauses, &mut lines, number)? else {
+                let Some(var) = close(&mut trail, clauses, &mut lines, &mut marks, number)? else {
                     return Ok(Found::Closed(Log { lines }));
                 };
                 leaves += 1;

@@ -20,11 +20,25 @@ const NOT_Y: Lit = Lit { var: 1, neg: true };
 
 const Z: Lit = Lit { var: 2, neg: false };
 
+const NOT_Z: Lit = Lit { var: 2, neg: true };
+
+const U: Lit = Lit { var: 3, neg: false };
+
+const NOT_U: Lit = Lit { var: 3, neg: true };
+
 /// Four clauses over two variables that no values meet.
-const SQUARE: [[Lit; 2]; 4] = [[X, Y], [X, NOT_Y], [NOT_X, Y], [NOT_X, NOT_Y]];
+const SQUARE: [[Lit; 3]; 4] = [
+    [X, X, Y],
+    [X, X, NOT_Y],
+    [NOT_X, NOT_X, Y],
+    [NOT_X, NOT_X, NOT_Y],
+];
 
 /// The first variable is true, and each next one where the one before it is.
-const CHAIN: [[Lit; 2]; 3] = [[X, X], [NOT_X, Y], [NOT_Y, Z]];
+const CHAIN: [[Lit; 3]; 3] = [[X, X, X], [NOT_X, NOT_X, Y], [NOT_Y, NOT_Y, Z]];
+
+/// The first variable is true by the third and the fourth, and the second stands in none.
+const BESIDE: [[Lit; 3]; 4] = [[X, Z, U], [X, Z, NOT_U], [X, NOT_Z, U], [X, NOT_Z, NOT_U]];
 
 fn is_shared<T: Send + Sync>(_value: &T) {}
 
@@ -42,14 +56,14 @@ fn clause_of(alloc: Global, vars: usize, literals: &[Lit]) -> Result<Clause, All
     Ok(clause)
 }
 
-/// The formula of clauses of two literals each.
-fn of_pairs(alloc: Global, vars: usize, pairs: &[[Lit; 2]]) -> Result<Cnf, AllocError>
+/// The formula of clauses of three literals each, some of which may be the same.
+fn of_triples(alloc: Global, vars: usize, triples: &[[Lit; 3]]) -> Result<Cnf, AllocError>
     ensures vars { IfOk result (λ f. f.vars ≡ vars) }
     ensures below { IfOk result (λ f. AreBelow f.vars f.clauses) }
 {
     let mut clauses: Vec<Clause> = Vec::new(alloc);
-    for pair in pairs {
-        clauses.push(clause_of(alloc, vars, pair)?)?;
+    for triple in triples {
+        clauses.push(clause_of(alloc, vars, triple)?)?;
     }
     Ok(Cnf { vars, clauses })
 }
@@ -110,15 +124,22 @@ fn finds_the_least_model(rt: HostRuntime) -> Result<(), Fail> {
     is_shared(&found);
     let forty = one_clause(alloc, 40, &[NOT_X])?;
     assert!(rt; is_model(&search_all(alloc, &forty, 1)?, &[false; 40]));
-    let chain = of_pairs(alloc, 3, &CHAIN)?;
-    assert!(rt; is_model(&search_all(alloc, &chain, 8)?, &[true; 3]));
+    let beside = of_triples(alloc, 4, &BESIDE)?;
+    assert!(rt;
+        is_model(
+            &search_all(alloc, &beside, 3)?,
+            &[true, false, false, false]
+        )
+    );
+    let chain = of_triples(alloc, 3, &CHAIN)?;
+    assert!(rt; is_model(&search_all(alloc, &chain, 1)?, &[true; 3]));
     Ok(())
 }
 
 #[test]
 fn closes_what_has_no_model(rt: HostRuntime) -> Result<(), Fail> {
     let alloc = rt.alloc();
-    let square = of_pairs(alloc, 2, &SQUARE)?;
+    let square = of_triples(alloc, 2, &SQUARE)?;
     assert!(rt; is_closed(&search_all(alloc, &square, 2)?, 2));
     assert!(rt; is_spent(&search_all(alloc, &square, 1)?, 1));
     let never = one_clause(alloc, 3, &[])?;

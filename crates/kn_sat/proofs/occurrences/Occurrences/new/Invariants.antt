@@ -1,10 +1,9 @@
 -- The numbers so far are low.
-use Rattle.kn_sat.specs.Occurrences.{AreLower, AreWithin}
+use Rattle.kn_sat.specs.Occurrences.{AreWithin}
 use Rattle.kn_sat.proofs.occurrences.Occurrences.new.Given as goal
 
 abbrev pub invariant-loop-number : goal.invariant-loop-number
 invariant-loop-number l = record {
-  short : AreLower l.number l.short.items;
   positive : AreWithin l.number l.positive.items;
   negative : AreWithin l.number l.negative.items;
 }
