@@ -9,3 +9,4 @@ pub mod Splitting
 pub mod Answering
 pub mod Opening
 pub mod Found
+pub mod Staying

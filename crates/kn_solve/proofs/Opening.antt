@@ -103,7 +103,7 @@ covered_widest es (Choice c x y) n k covers =
     omega (arith, greatest_append (reads_in c) (reads_in x ++ reads_in y) n k, greatest_append (reads_in x) (reads_in y) n k, covered_widest es c n k (λ m j w r. covers m j w (inl r)), covered_widest es x n k (λ m j w r. covers m j w (inr (inl r))), covered_widest es y n k (λ m j w r. covers m j w (inr (inr r))))
 
 -- each width with which a term reads an input is at most the greatest
-read_widest : (t : Term) (n k width : ℕ) → Reads n k width t → width ≤ greatest (reads_in t) n k
+pub read_widest : (t : Term) (n k width : ℕ) → Reads n k width t → width ≤ greatest (reads_in t) n k
 read_widest (Word w) n k width h = absurd h
 read_widest (Input m j bits) n k width h =
     let own : (if nat_eq m n && nat_eq j k then bits else 0) ≡ bits = rw (eq-eqb m n (sym h.0), eq-eqb j k (sym h.1)) refl in
@@ -130,7 +130,7 @@ entries_positive first [] h = tt
 entries_positive first (e ∷ es) h = (omega (arith, h.0), entries_positive (first + e.width) es h.4)
 
 -- the words of a valuation, cut to fewer bits
-cut_shorter : (w width whole : ℕ) → width ≤ whole → w % 2 ^ whole % 2 ^ width ≡ w % 2 ^ width
+pub cut_shorter : (w width whole : ℕ) → width ≤ whole → w % 2 ^ whole % 2 ^ width ≡ w % 2 ^ width
 cut_shorter w width whole h = let parts : whole ≡ (whole - width) + width = omega (arith, h) in ap (λ (n : ℕ). w % 2 ^ n % 2 ^ width) parts ∙ mod-mod-pow w (whole - width) width
 
 -- the circuit of a term that is asked not to be 0

@@ -32,17 +32,17 @@ rank-below (r ∷ rs) (w ∷ ws) are =
     let whole : 2 ^ width_of (r ∷ rs) ≡ 2 ^ r.width * 2 ^ width_of rs = ap (λ k. 2 ^ k) (sum_by-cons (λ (x : Read). x.width) r rs) ∙ pow-add 2 r.width (width_of rs) in
     omega (arith, first_below w (2 ^ r.width) (2 ^ width_of rs) (rank rs ws) are.0 (rank-below rs ws are.1), whole)
 
-less_first : (w v : ℕ) (ws vs : List ℕ) → w < v → ComesBefore (w ∷ ws) (v ∷ vs)
+pub less_first : (w v : ℕ) (ws vs : List ℕ) → w < v → ComesBefore (w ∷ ws) (v ∷ vs)
 less_first w v ws vs h = ap (λ (o : Ordering). ordering_then o (slice_cmp nat_cmp ws vs)) (sym (nat_cmp_is w v Less h))
 
-same_first : (w v : ℕ) (ws vs : List ℕ) → w ≡ v → slice_cmp nat_cmp (w ∷ ws) (v ∷ vs) ≡ slice_cmp nat_cmp ws vs
+pub same_first : (w v : ℕ) (ws vs : List ℕ) → w ≡ v → slice_cmp nat_cmp (w ∷ ws) (v ∷ vs) ≡ slice_cmp nat_cmp ws vs
 same_first w v ws vs e = ap (λ (o : Ordering). ordering_then o (slice_cmp nat_cmp ws vs)) (sym (nat_cmp_is w v Equal e))
 
-more_first : (w v : ℕ) (ws vs : List ℕ) → v < w → slice_cmp nat_cmp (w ∷ ws) (v ∷ vs) ≡ Greater
+pub more_first : (w v : ℕ) (ws vs : List ℕ) → v < w → slice_cmp nat_cmp (w ∷ ws) (v ∷ vs) ≡ Greater
 more_first w v ws vs h = ap (λ (o : Ordering). ordering_then o (slice_cmp nat_cmp ws vs)) (sym (nat_cmp_is w v Greater h))
 
 -- below, the same, or above
-three : (w v : ℕ) → (w < v) ⊎ ((w ≡ v) ⊎ (v < w))
+pub three : (w v : ℕ) → (w < v) ⊎ ((w ≡ v) ⊎ (v < w))
 three w v = elim (cases_lt w v) [ inl h ↦ inl h | inr h ↦ elim (cases_eq w v) [ inl e ↦ inr (inl e) | inr n ↦ inr (inr (omega arith)) ] ]
 
 -- words of a lower rank come before

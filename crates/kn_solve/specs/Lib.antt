@@ -4,3 +4,4 @@ pub mod Wholes
 pub mod Orders
 pub mod Asking
 pub mod Verdicts
+pub mod Laws
