@@ -1,5 +1,5 @@
 -- A graph: dstates, states, histories and packets, each under its number.
-use Rattle.std.specs.Prelude.{◌≡◌, ◌≢◌, ℕ, ◌<◌, ◌≤◌, Bool, true, false, List, [], ◌∷◌, map, length, Option, None, Some, IsSome, option_map, unwrap_or, slice_get, slice_index_or}
+use Rattle.std.specs.Prelude.{◌≡◌, ◌≢◌, ℕ, ◌<◌, ◌≤◌, Bool, true, false, List, [], ◌∷◌, map, length, Option, None, Some, IsSome, option_map, unwrap_or, slice_get, slice_set, slice_index_or}
 use Rattle.kn_built.specs.Built.{Extends}
 use Rattle.kn_packet.specs.Histories.{Done, followed}
 use Rattle.kn_dstate.specs.declared.row.Entry.{Entry}
@@ -38,6 +38,10 @@ state g s = unwrap_or (at g.states s) (record { node = 0; history = 0; pinned = 
 
 abbrev pub dstate : GraphView → ℕ → PlaceView
 dstate g d = unwrap_or (at g.dstates d) (record { columns = []; inboxes = [] })
+
+-- the graph with this under the number of a state
+abbrev pub with_state : GraphView → ℕ → Option KnownView → GraphView
+with_state g s x = record g { states = slice_set g.states s x }
 
 -- a dstate has a state of node n
 abbrev pub IsHeld : List (Option PlaceView) → ℕ → ℕ → ℕ → Type 0
@@ -100,16 +104,20 @@ pub record Held : Type 0 where
 abbrev pub known_of : Held → KnownView
 known_of x = x.known
 
+-- a state with another pin
+abbrev pub with_pin : Bool → Held → Held
+with_pin b x = record x { known = record x.known { pinned = b } }
+
 -- what is seen of all states
 abbrev pub shown : List (Option Held) → List (Option KnownView)
 shown xs = map (option_map known_of) xs
 
 -- there is a state s, of node n
-abbrev pub IsStateOf : List (Option Held) → ℕ → ℕ → Type 0
-IsStateOf states n s = (x : Held) × (at states s ≡ Some x) × (x.known.node ≡ n)
+abbrev pub IsStateOf : List (Option KnownView) → ℕ → ℕ → Type 0
+IsStateOf states n s = (x : KnownView) × (at states s ≡ Some x) × (x.node ≡ n)
 
 -- a column of node n: some states of it, none twice
-pub record IsColumn (states : List (Option Held)) (n : ℕ) (c : List ℕ) : Type 0 where
+pub record IsColumn (states : List (Option KnownView)) (n : ℕ) (c : List ℕ) : Type 0 where
   pub some : 0 < length c
   pub once : AreDistinct c
   pub known : (s : ℕ) → is_in s c ≡ true → IsStateOf states n s
@@ -120,7 +128,7 @@ pub record IsInbox (packets : List ℕ) (n : ℕ) (b : List ℕ) : Type 0 where
   pub sent : (k : ℕ) → is_in k b ≡ true → slice_get packets k ≡ Some n
 
 -- a dstate has a column and an inbox for each node
-pub record IsPlace (nodes : ℕ) (states : List (Option Held)) (packets : List ℕ) (p : PlaceView) : Type 0 where
+pub record IsPlace (nodes : ℕ) (states : List (Option KnownView)) (packets : List ℕ) (p : PlaceView) : Type 0 where
   pub columns_many : length p.columns ≡ nodes
   pub inboxes_many : length p.inboxes ≡ nodes
   pub columns : (n : ℕ) (c : List ℕ) → slice_get p.columns n ≡ Some c → IsColumn states n c
@@ -136,6 +144,6 @@ pub record IsKnown (nodes : ℕ) (dstates : List (Option PlaceView)) (ts : List 
 
 -- what holds of each graph
 pub record IsGraph (nodes : ℕ) (dstates : List (Option PlaceView)) (states : List (Option Held)) (rows : List Row) (packets : List ℕ) : Type 0 where
-  pub places : (d : ℕ) (p : PlaceView) → at dstates d ≡ Some p → IsPlace nodes states packets p
+  pub places : (d : ℕ) (p : PlaceView) → at dstates d ≡ Some p → IsPlace nodes (shown states) packets p
   pub known : (s : ℕ) (x : Held) → at states s ≡ Some x → IsKnown nodes dstates (told rows) s x
   pub table : IsTable rows

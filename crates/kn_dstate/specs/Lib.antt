@@ -3,3 +3,4 @@ pub mod HistoryCode
 pub mod Histories
 pub mod Places
 pub mod Graphs
+pub mod Gathered

@@ -1,16 +1,16 @@
 //! Graphs.
 
-ghost use Rattle.std.specs.Prelude.{◌≡◌, ◌<◌, ◌≤◌, ◌^◌, true, ◌↔◌, ◌++◌, [], ◌∷◌, length, map, slice_get, Some, IfOk, OnOk, OnErr, IsTrue, MatchOption};
+ghost use Rattle.std.specs.Prelude.{◌≡◌, ◌<◌, ◌≤◌, ◌^◌, ◌↔◌, ◌++◌, [], ◌∷◌, ℕ, true, false, length, map, slice_get, Some, None, IfOk, OnOk, OnErr, IsTrue, MatchOption};
 ghost use Rattle.kn_packet.specs.Histories.{history_cmp};
 ghost use Rattle.kn_dstate.specs.Histories.{history_in, IsHistoryOf, AllNameBelow};
-ghost use Rattle.kn_dstate.specs.Places.{column, inbox, holds, others, choices};
-ghost use Rattle.kn_dstate.specs.Graphs.{HasState, HasDstate, state, dstate, IsPlaced, IsOpened, HasNew, Keeps, IsLowest, NoneFrom};
+ghost use Rattle.kn_dstate.specs.Places.{column, inbox, holds, is_in, others, choices, AreDistinct};
+ghost use Rattle.kn_dstate.specs.Graphs.{HasState, HasDstate, state, dstate, with_state, IsPlaced, IsTarget, IsOpened, HasNew, Keeps, IsLowest, NoneFrom};
 
 use crate::known::Known;
 use crate::number::{DstateNo, HistoryNo, PacketNo, StateNo};
 use crate::opening::{open_dstates, open_states};
 use crate::order::cmp_rows;
-use crate::place::{Place, without};
+use crate::place::{Place, gather, without};
 use crate::row::{Entry, Row};
 use crate::table::{extend, open_rows};
 use slab::Slab;
@@ -133,6 +133,43 @@ impl Graph {
     {
         let node = self.states[s.0].node as usize;
         without(*self.rows.allocator(), self.dstates[d.0].column(node), s)
+    }
+
+    /// The states of a node in the dstates of a state, each once. Err is want of memory.
+    pub fn targets(&self, s: StateNo, node: u32) -> Result<Vec<StateNo>, AllocError>
+        requires state { HasState self.now s.0 }
+        requires node { node < self.now.nodes }
+        ensures once { IfOk result (λ v. AreDistinct (map (λ x. x.0) v.items)) }
+        ensures each { IfOk result (λ v. (x : ℕ) → (is_in x (map (λ x. x.0) v.items) ≡ true) ↔ IsTarget self.now s.0 node x) }
+    {
+        let out = gather(
+            *self.rows.allocator(),
+            &self.dstates,
+            self.states[s.0].dstates(),
+            node as usize,
+        )?;
+        Ok(out)
+    }
+
+    /// Keeps the number of a state also where no dstate has it, until it is unpinned. It takes no memory.
+    pub fn pin(&mut self, s: StateNo)
+        requires { HasState self.old s.0 }
+        ensures { self.new ≡ with_state self.old s.0 (Some (record (state self.old s.0) { pinned = true })) }
+    {
+        self.states[s.0].set_pinned(true);
+    }
+
+    /// Keeps the number of a state only while some dstate has it: a state that is in none goes. It takes no memory.
+    pub fn unpin(&mut self, s: StateNo)
+        requires { HasState self.old s.0 }
+        ensures placed { IsPlaced self.old s.0 → self.new ≡ with_state self.old s.0 (Some (record (state self.old s.0) { pinned = false })) }
+        ensures gone { (IsPlaced self.old s.0 → ⊥) → self.new ≡ with_state self.old s.0 None }
+    {
+        if self.states[s.0].is_placed() {
+            self.states[s.0].set_pinned(false);
+        } else {
+            drop(self.states.remove(s.0));
+        }
     }
 
     /// How many picks a dstate has: the product of how many states its columns have. None exactly where that is past the

@@ -1,7 +1,7 @@
 //! States as a graph keeps them.
 
 ghost use Rattle.std.specs.Prelude.{◌≡◌, ◌<◌, ◌↔◌, [], ◌∷◌, false, length, IfOk, IsTrue};
-ghost use Rattle.kn_dstate.specs.Graphs.{Held};
+ghost use Rattle.kn_dstate.specs.Graphs.{Held, with_pin};
 
 use std::alloc::{AllocError, Global};
 use std::marker::Model;
@@ -47,6 +47,20 @@ impl Known {
             pinned: false,
             dstates: Vec::from_slice(alloc, &[0])?,
         })
+    }
+
+    /// Is pinned from now on, or is not any more.
+    pub(crate) fn set_pinned(&mut self, pinned: bool)
+        ensures { self.new ≡ with_pin pinned self.old }
+    {
+        self.pinned = pinned;
+    }
+
+    /// The numbers of the dstates that have it.
+    pub(crate) fn dstates(&self) -> &[usize]
+        ensures { result.now ≡ self.now.dstates }
+    {
+        &self.dstates
     }
 
     /// Whether some dstate has it.

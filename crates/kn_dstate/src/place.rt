@@ -1,10 +1,13 @@
 //! Dstates.
 
-ghost use Rattle.std.specs.Prelude.{◌≡◌, ◌<◌, ◌≤◌, ◌^◌, length, map, IfOk, MatchOption};
+ghost use Rattle.std.specs.Prelude.{◌≡◌, ◌<◌, ◌≤◌, ◌^◌, [], length, map, IfOk, OnOk, MatchOption};
 ghost use Rattle.std.specs.List.{AllByRecursion};
-ghost use Rattle.kn_dstate.specs.Places.{PlaceView, column, inbox, others, choices};
+ghost use Rattle.kn_dstate.specs.Places.{PlaceView, column, inbox, is_in, others, choices};
+ghost use Rattle.kn_dstate.specs.Graphs.{at};
+ghost use Rattle.kn_dstate.specs.Gathered.{with_number, with_all, column_in, gathered};
 
 use crate::number::{PacketNo, StateNo};
+use slab::Slab;
 use std::alloc::{AllocError, Global};
 use std::marker::Model;
 
@@ -78,6 +81,73 @@ pub(crate) fn without(
         if x.0 != s.0 {
             out.push(*x)?;
         }
+    }
+    Ok(out)
+}
+
+/// Whether a state stands in a column.
+fn has(column: &[StateNo], s: StateNo) -> bool
+    ensures { result ≡ is_in s.0 (map (λ x. x.0) column.now) }
+{
+    for x in column {
+        if x.0 == s.0 {
+            return true;
+        }
+    }
+    false
+}
+
+/// Appends a state, unless it is there already.
+fn add_missing(out: &mut Vec<StateNo>, s: StateNo) -> Result<(), AllocError>
+    ensures { OnOk result (map (λ x. x.0) out.new.items ≡ with_number s.0 (map (λ x. x.0) out.old.items)) }
+{
+    if has(out, s) {
+        return Ok(());
+    }
+    out.push(s)?;
+    Ok(())
+}
+
+/// Appends the states of a column that are not there yet.
+fn add_column(out: &mut Vec<StateNo>, column: &[StateNo]) -> Result<(), AllocError>
+    ensures { OnOk result (map (λ x. x.0) out.new.items ≡ with_all (map (λ x. x.0) column.now) (map (λ x. x.0) out.old.items)) }
+{
+    for x in column {
+        add_missing(out, *x)?;
+    }
+    Ok(())
+}
+
+/// Appends the states of a node in a dstate that are not there yet.
+fn add_from(
+    out: &mut Vec<StateNo>,
+    dstates: &Slab<Place>,
+    key: usize,
+    node: usize,
+) -> Result<(), AllocError>
+    ensures { OnOk result (map (λ x. x.0) out.new.items ≡ with_all (column_in (at dstates.now.slots key) node) (map (λ x. x.0) out.old.items)) }
+{
+    let Some(place) = dstates.get(key) else {
+        return Ok(());
+    };
+    match place.columns.get(node) {
+        Some(column) => add_column(out, column),
+        None => Ok(()),
+    }
+}
+
+/// The states of a node in the dstates of some numbers, each once.
+pub(crate) fn gather(
+    alloc: Global,
+    dstates: &Slab<Place>,
+    keys: &[usize],
+    node: usize,
+) -> Result<Vec<StateNo>, AllocError>
+    ensures { IfOk result (λ v. map (λ x. x.0) v.items ≡ gathered dstates.now.slots node keys.now []) }
+{
+    let mut out = Vec::new(alloc);
+    for key in keys {
+        add_from(&mut out, dstates, *key, node)?;
     }
     Ok(out)
 }

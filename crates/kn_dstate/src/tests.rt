@@ -19,6 +19,10 @@ fn reads_a_new_graph(rt: HostRuntime) -> Result<(), Fail> {
     assert!(rt; graph.is_placed(StateNo(0)));
     assert!(rt; graph.pick_count(DstateNo(0)) == Some(1));
     assert!(rt; graph.rivals(StateNo(1), DstateNo(0))?.is_empty());
+    assert_eq!(rt;
+        graph.targets(StateNo(0), 1)?.as_slice(),
+        [StateNo(1)].as_slice()
+    );
     assert!(rt; graph.state_from(1) == Some(StateNo(1)) && graph.state_from(3).is_none());
     assert!(rt; graph.dstate_from(0) == Some(DstateNo(0)) && graph.dstate_from(1).is_none());
     assert_eq!(rt;
@@ -28,6 +32,8 @@ fn reads_a_new_graph(rt: HostRuntime) -> Result<(), Fail> {
     let packet = graph.new_packet(1)?;
     assert_eq!(rt; packet.0, 0);
     assert_eq!(rt; graph.destination(packet), 1);
+    graph.pin(StateNo(2));
+    assert!(rt; graph.state_from(2) == Some(StateNo(2)));
     Ok(())
 }
 
@@ -52,5 +58,7 @@ fn adds_a_state(rt: HostRuntime) -> Result<(), Fail> {
     let history = graph.history(state);
     assert_eq!(rt; graph.cmp_history(HistoryNo(1), history), Ordering::Less);
     assert_eq!(rt; graph.cmp_history(history, HistoryNo(0)), Ordering::Greater);
+    graph.unpin(state);
+    assert!(rt; graph.state_from(3).is_none());
     Ok(())
 }
