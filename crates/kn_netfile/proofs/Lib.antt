@@ -1,0 +1,16 @@
+pub mod Lines
+pub mod Defined
+pub mod Parsed
+pub mod Spelled
+pub mod Elements
+pub mod Ascii
+pub mod Back
+pub mod Written
+pub mod Valid
+pub mod ValidInputs
+pub mod ValidKeys
+pub mod ValidLinks
+pub mod ValidNodes
+pub mod ValidPrograms
+pub mod Walks
+pub mod Cases
