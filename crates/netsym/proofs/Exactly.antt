@@ -1,14 +1,28 @@
 -- From what a call does follows exactly when each status comes.
-use Rattle.std.proofs.Common.{◌≡◌, ◌⊎◌, inl, inr, ℕ, ◌+◌, ◌≤◌, List, ◌++◌, length, Option, Some, None, refl, sym, ap, subst, ◌∙◌, arith}
+use Rattle.std.proofs.Common.{◌≡◌, ◌⊎◌, inl, inr, ℕ, ◌+◌, ◌≤◌, List, ◌++◌, length, Option, Some, None, Result, Ok, refl, sym, ap, subst, ◌∙◌, arith}
 use Rattle.std.specs.Io.KnownBytes.{Consumes, IsAtEnd}
 use Rattle.std.proofs.lemmas.List.{append-nil, length-append}
 use Rattle.kn_model.specs.Nets.{Network}
 use Rattle.netsym.specs.declared.status.Status.{Status}
 use Rattle.netsym.specs.declared.status.Status.TheVariants as statuses
-use Rattle.netsym.specs.Form.{IsFile}
+use Rattle.kn_plan.specs.Files.{File}
+use Rattle.kn_netfile.specs.Faults.{Fault}
+use Rattle.kn_netfile.specs.Reading.{file_of}
+use Rattle.netsym.specs.Plans.{RunsNow}
+use Rattle.netsym.specs.Refusals.{IsAccepted, IsRefusal}
 use Rattle.netsym.specs.Runs.{IsCommand, IsRight, PassesLimit, Reads, Runs, limit}
 use Rattle.netsym.specs.Exact.{EndsAs, IsUsage, IsHindered, IsPrinted, IsDescribed, IsTooLarge, IsExact}
-use Rattle.netsym.proofs.FormFiles.{one_network}
+
+-- bytes are a file of one network alone
+one_network : (bytes : List ℕ) (net other : Network) → IsAccepted bytes net → IsAccepted bytes other → net ≡ other
+one_network bytes net other a b =
+    let same : Ok a.file ≡ Ok b.file = sym a.given ∙ b.given in
+    let file : a.file ≡ b.file = cc in
+    sym a.network ∙ (ap (λ (f : File). f.network) file ∙ b.network)
+
+-- what is accepted is not refused
+not_both : (bytes : List ℕ) (net : Network) (text : List ℕ) → IsAccepted bytes net → IsRefusal (file_of bytes) text → ⊥
+not_both bytes net text a r = (subst (λ (f : Result File Fault). IsRefusal f text) a.given r).0 (subst RunsNow (sym a.network) a.runs)
 
 -- what was read to the end of a source that holds these bytes is these bytes
 read_is : (left' : Option (List ℕ)) (bytes read : List ℕ) → Consumes (Some bytes) left' read → IsAtEnd left' → read ≡ bytes
@@ -40,15 +54,15 @@ usage_exactly words left left' faults faults' taken taken' status run = record {
     only_usage statuses.Limit text none r = absurd (none r.0)
 
 module _ (words : List (List ℕ)) (left left' : Option (List ℕ)) (faults faults' : ℕ) (taken taken' : Option (List ℕ)) (status : Status) (run : Runs words left left' faults faults' taken taken' status) (bytes : List ℕ) (holds : left ≡ Some bytes) (command : IsCommand words) where
-  described_by : (read : List ℕ) → Reads left left' read → (net : Network) → IsFile read net → IsDescribed bytes
-  described_by read reads net form =
+  described_by : (read : List ℕ) → Reads left left' read → (net : Network) → IsAccepted read net → IsDescribed bytes
+  described_by read reads net accepted =
       let same = read_is left' bytes read (subst (λ (l : Option (List ℕ)). Consumes l left' read) holds reads.all) reads.end in
-      (subst (λ (l : List ℕ). length l ≤ limit) same reads.fits, net, subst (λ (l : List ℕ). IsFile l net) same form)
+      (subst (λ (l : List ℕ). length l ≤ limit) same reads.fits, net, subst (λ (l : List ℕ). IsAccepted l net) same accepted)
 
   -- a printed report is on what the bytes describe
   verdict_printed : (v : Status) (text : List ℕ) → IsRight words left left' v text → IsPrinted v → IsDescribed bytes
-  verdict_printed statuses.Clean text r p = described_by r.1 r.2 r.3.1.net r.3.1.form
-  verdict_printed statuses.Found text r p = described_by r.1 r.2 r.3.1.net r.3.1.form
+  verdict_printed statuses.Clean text r p = described_by r.1 r.2 r.3.1.net r.3.1.accepted
+  verdict_printed statuses.Found text r p = described_by r.1 r.2 r.3.1.net r.3.1.accepted
   verdict_printed statuses.Usage text r p = absurd p
   verdict_printed statuses.Refused text r p = absurd p
   verdict_printed statuses.ReadFault text r p = absurd p
@@ -63,7 +77,7 @@ module _ (words : List (List ℕ)) (left left' : Option (List ℕ)) (faults faul
       record {
         fits = subst (λ (l : List ℕ). length l ≤ limit) same r.2.fits;
         net = r.3.0;
-        form = subst (λ (l : List ℕ). IsFile l r.3.0) same r.3.1;
+        accepted = subst (λ (l : List ℕ). IsAccepted l r.3.0) same r.3.1;
         passes = r.3.2.passes;
       }
 
@@ -78,7 +92,7 @@ module _ (words : List (List ℕ)) (left left' : Option (List ℕ)) (faults faul
             omega (arith, most, many, fits)
         | inr read ↦
             let same = read_is left' bytes read.0 (subst (λ (l : Option (List ℕ)). Consumes l left' read.0) holds read.1.all) read.1.end in
-            read.2.0 described.1 (subst (λ (l : List ℕ). IsFile l described.1) (sym same) described.2)
+            not_both bytes described.1 text described.2 (subst (λ (l : List ℕ). IsRefusal (file_of l) text) same read.2)
       ]
 
   verdict_prints : (v : Status) (text : List ℕ) → IsRight words left left' v text → IsDescribed bytes → IsPrinted v ⊎ ((v ≡ statuses.Limit) ⊎ IsHindered v)
@@ -99,7 +113,7 @@ module _ (words : List (List ℕ)) (left left' : Option (List ℕ)) (faults faul
   verdict_refuses statuses.ReadFault text r none = inr tt
   verdict_refuses statuses.WriteFault text r none = absurd r
   verdict_refuses statuses.Memory text r none = inr tt
-  verdict_refuses statuses.Limit text r none = absurd (none (let large = verdict_limited text r in (large.fits, large.net, large.form)))
+  verdict_refuses statuses.Limit text r none = absurd (none (let large = verdict_limited text r in (large.fits, large.net, large.accepted)))
 
   -- a limit is answered only where one is passed
   limit_answered : status ≡ statuses.Limit → IsTooLarge bytes
@@ -112,12 +126,12 @@ module _ (words : List (List ℕ)) (left left' : Option (List ℕ)) (faults faul
   report_or_limit d = status_is (λ s. IsPrinted s ⊎ ((s ≡ statuses.Limit) ⊎ IsHindered s)) words left left' faults faults' taken taken' status run (verdict_prints run.verdict run.text run.right d) (inr (inr tt))
 
   -- where the network that is described passes no limit, none is answered
-  within : (net : Network) → IsFile bytes net → (PassesLimit net → ⊥) → IsPrinted status ⊎ ((status ≡ statuses.Limit) ⊎ IsHindered status) → IsPrinted status ⊎ IsHindered status
-  within net form none (inl p) = inl p
-  within net form none (inr (inr h)) = inr h
-  within net form none (inr (inl is)) =
+  within : (net : Network) → IsAccepted bytes net → (PassesLimit net → ⊥) → IsPrinted status ⊎ ((status ≡ statuses.Limit) ⊎ IsHindered status) → IsPrinted status ⊎ IsHindered status
+  within net accepted none (inl p) = inl p
+  within net accepted none (inr (inr h)) = inr h
+  within net accepted none (inr (inl is)) =
       let large = limit_answered is in
-      absurd (none (subst PassesLimit (one_network bytes large.net net large.form form) large.passes))
+      absurd (none (subst PassesLimit (one_network bytes large.net net large.accepted accepted) large.passes))
 
   pub exact_by : IsExact bytes status
   exact_by = record {
@@ -132,5 +146,5 @@ module _ (words : List (List ℕ)) (left left' : Option (List ℕ)) (faults faul
     limited = limit_answered;
     refuses = λ none. status_is (λ s. (s ≡ statuses.Refused) ⊎ IsHindered s) words left left' faults faults' taken taken' status run (verdict_refuses run.verdict run.text run.right none) (inr tt);
     prints = report_or_limit;
-    prints_within = λ fits net form none. within net form none (report_or_limit (fits, net, form));
+    prints_within = λ fits net accepted none. within net accepted none (report_or_limit (fits, net, accepted));
   }

@@ -1,6 +1,8 @@
 pub mod Edits
 pub mod Clashing
 pub mod Plain
+pub mod Lefts
+pub mod LaterNets
 pub mod PlainPrograms
 pub mod PlainWays
 pub mod Plainness
@@ -42,15 +44,6 @@ pub mod Placing
 pub mod Printed
 pub mod Making
 pub mod Decided
-pub mod FormNet
 pub mod Words
 pub mod Ends
 pub mod Exactly
-pub mod FormNumbers
-pub mod FormLines
-pub mod FormGroups
-pub mod FormTexts
-pub mod FormLeft
-pub mod FormPrograms
-pub mod FormNetworks
-pub mod FormFiles

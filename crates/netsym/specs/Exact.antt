@@ -1,7 +1,7 @@
 -- Exactly when each status comes.
 use Rattle.std.specs.Prelude.{◌≡◌, ◌⊎◌, ◌≤◌, ℕ, List, length}
 use Rattle.kn_model.specs.Nets.{Network}
-use Rattle.netsym.specs.Form.{IsFile}
+use Rattle.netsym.specs.Refusals.{IsAccepted}
 use Rattle.netsym.specs.Runs.{IsCommand, PassesLimit, limit}
 use Rattle.netsym.specs.declared.status.Status.{Status}
 use Rattle.netsym.specs.declared.status.Status.TheVariants as statuses
@@ -28,23 +28,24 @@ IsPrinted statuses.Clean = Unit {0}
 IsPrinted statuses.Found = Unit {0}
 IsPrinted other = ⊥
 
+-- the bytes describe a network that runs now
 abbrev pub IsDescribed : List ℕ → Type 0
-IsDescribed bytes = (length bytes ≤ limit) × (net : Network) × IsFile bytes net
+IsDescribed bytes = (length bytes ≤ limit) × (net : Network) × IsAccepted bytes net
 
 -- the bytes describe a network that passes a limit
 pub record IsTooLarge (bytes : List ℕ) : Type 0 where
   pub fits : length bytes ≤ limit
   pub net : Network
-  pub form : IsFile bytes net
+  pub accepted : IsAccepted bytes net
   pub passes : PassesLimit net
 
 -- For the words of the command and a source that holds these bytes: they are refused exactly where they describe no
--- network, but where a fault or want of memory hinders it. Where they describe one, the report is printed but where that
--- is hindered or a limit is answered; and a limit is answered only where the network passes one.
+-- network that runs now, but where a fault or want of memory hinders it. Where they describe one, the report is printed
+-- but where that is hindered or a limit is answered; and a limit is answered only where the network passes one.
 pub record IsExact (bytes : List ℕ) (status : Status) : Type 0 where
   pub refused : status ≡ statuses.Refused → IsDescribed bytes → ⊥
   pub printed : IsPrinted status → IsDescribed bytes
   pub limited : status ≡ statuses.Limit → IsTooLarge bytes
   pub refuses : (IsDescribed bytes → ⊥) → (status ≡ statuses.Refused) ⊎ IsHindered status
   pub prints : IsDescribed bytes → IsPrinted status ⊎ ((status ≡ statuses.Limit) ⊎ IsHindered status)
-  pub prints_within : length bytes ≤ limit → (net : Network) → IsFile bytes net → (PassesLimit net → ⊥) → IsPrinted status ⊎ IsHindered status
+  pub prints_within : length bytes ≤ limit → (net : Network) → IsAccepted bytes net → (PassesLimit net → ⊥) → IsPrinted status ⊎ IsHindered status

@@ -20,9 +20,7 @@ pub mod Listing
 pub mod Looks
 pub mod Ordered
 pub mod Texts
-pub mod Form
 pub mod Statuses
+pub mod Refusals
 pub mod Runs
 pub mod Exact
-pub mod FormReading
-pub mod FormViews

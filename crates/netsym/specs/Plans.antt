@@ -1,23 +1,10 @@
--- The network of a file: plain programs, plans without losses, copies and reboots, and limits of which the file gives the
--- ticks alone.
-use Rattle.std.specs.Prelude.{◌≡◌, ℕ, List, [], map}
+-- The networks that the program explores now: plain programs, and plans without losses, copies and reboots.
+use Rattle.std.specs.Prelude.{◌≡◌, []}
 use Rattle.std.specs.List.{AllByRecursion}
 use Rattle.kn_code.specs.declared.program.Instr.{Instr}
 use Rattle.kn_code.specs.declared.program.Instr.TheVariants.{Const, Mov, Jmp, Brz, Input, Timer, Cancel, Send, Bcast, Recvw, Rlen, Rfrom, Assert, Node, Now, Ret, Halt}
 use Rattle.kn_code.specs.Code.{Code}
-use Rattle.kn_plan.specs.Nets.{Network, Plan, Link, Limits}
-
--- a node that runs a program, loses and doubles no packet, and does not reboot
-abbrev pub plan_with : ℕ → Plan
-plan_with program = record { program = program; loss = 0; duplicate = 0; reboot = [] }
-
--- so many ticks, and all other limits at their defaults
-abbrev pub limits_with : ℕ → Limits
-limits_with ticks = record { ticks = ticks; fuel = 512; conflicts = 65536; states = 4096; dstates = 4096 }
-
--- so many ticks, the programs, the place of each node's program among them, and the links
-abbrev pub network_with : ℕ → List Code → List ℕ → List Link → Network
-network_with ticks programs nodes links = record { programs = programs; nodes = map plan_with nodes; links = links; limits = limits_with ticks }
+use Rattle.kn_plan.specs.Nets.{Network, Plan}
 
 -- a node that loses and doubles no packet, and does not reboot
 pub record IsBarePlan (p : Plan) : Type 0 where
@@ -57,3 +44,8 @@ IsPlainCode code = AllByRecursion IsPlainInstr code.instrs
 -- all programs are so
 abbrev pub HasPlainPrograms : Network → Type 0
 HasPlainPrograms net = AllByRecursion IsPlainCode net.programs
+
+-- it is explored now
+pub record RunsNow (net : Network) : Type 0 where
+  pub plain : HasPlainPrograms net
+  pub bare : IsBare net

@@ -10,7 +10,8 @@ use Rattle.kn_model.specs.Nets.{Network}
 use Rattle.kn_model.specs.Reports.{Report, Cob, Gives}
 use Rattle.kn_model.specs.Limits.{Limit, States, Dstates, IsOverCopied}
 use Rattle.netsym.specs.Texts.{report_text, reached_in, open_in}
-use Rattle.netsym.specs.Form.{IsFile}
+use Rattle.kn_netfile.specs.Reading.{file_of}
+use Rattle.netsym.specs.Refusals.{IsAccepted, IsRefusal}
 use Rattle.netsym.specs.declared.status.Status.{Status}
 use Rattle.netsym.specs.declared.status.Status.TheVariants as statuses
 
@@ -35,7 +36,7 @@ pub record Reads (left left' : Option (List ℕ)) (bytes : List ℕ) : Type 0 wh
 -- more dstates than the network's limit, and leaves no state and no failure open.
 pub record IsReportOn (bytes : List ℕ) (text : List ℕ) (r : Report) : Type 0 where
   pub net : Network
-  pub form : IsFile bytes net
+  pub accepted : IsAccepted bytes net
   pub given : Gives r net
   pub mapping : r.mapping ≡ Cob
   pub within : length r.dstates ≤ net.limits.dstates
@@ -57,9 +58,6 @@ usage_line = codes "netsym: not a command line\n"
 
 abbrev pub too_long_line : List ℕ
 too_long_line = codes "netsym: refused F1 -\n"
-
-abbrev pub not_form_line : List ℕ
-not_form_line = codes "netsym: refused F0 -\n"
 
 abbrev pub read_fault_line : List ℕ
 read_fault_line = codes "netsym: read fault\n"
@@ -92,16 +90,16 @@ abbrev pub IsEither : Network → Status → List ℕ → Type 0
 IsEither net status text = IsTold net status text ⊎ ((status ≡ statuses.Limit) × IsLimited net text)
 
 -- The status and the text that are right for some bytes: no failure is reached, or one is, and in both cases nothing is open,
--- or no network is described, or the network passes a limit.
+-- or the bytes are refused, or their network passes a limit.
 abbrev pub Answers : List ℕ → Status → List ℕ → Type 0
 Answers bytes statuses.Clean text = (r : Report) × IsReportOn bytes text r × (reached_in r ≡ 0)
 Answers bytes statuses.Found text = (r : Report) × IsReportOn bytes text r × (1 ≤ reached_in r)
-Answers bytes statuses.Refused text = ((net : Network) → IsFile bytes net → ⊥) × (text ≡ not_form_line)
+Answers bytes statuses.Refused text = IsRefusal (file_of bytes) text
 Answers bytes statuses.Usage text = ⊥
 Answers bytes statuses.ReadFault text = ⊥
 Answers bytes statuses.WriteFault text = ⊥
 Answers bytes statuses.Memory text = ⊥
-Answers bytes statuses.Limit text = (net : Network) × IsFile bytes net × IsLimited net text
+Answers bytes statuses.Limit text = (net : Network) × IsAccepted bytes net × IsLimited net text
 
 -- The status and the text that are right for the words and for what was read, before anything is written.
 abbrev pub IsRight : List (List ℕ) → Option (List ℕ) → Option (List ℕ) → Status → List ℕ → Type 0

@@ -7,19 +7,36 @@ ghost use Rattle.kn_model.specs.Reports.{Cob, Gives};
 ghost use Rattle.netsym.specs.Plans.{IsBare, HasPlainPrograms};
 ghost use Rattle.netsym.specs.Stopping.{limit_of, IsPassed};
 ghost use Rattle.netsym.specs.Texts.{reached_in, open_in, report_text};
-ghost use Rattle.netsym.specs.Runs.{Answers, IsEither, IsTold, limit_line, not_form_line};
+ghost use Rattle.netsym.specs.Refusals.{IsAccepted, SaysWhy, Tells, refusal_line};
+ghost use Rattle.netsym.specs.Runs.{Answers, IsEither, IsTold, limit_line};
 
 use crate::explore::{LimitKind, Stop, explore};
-use crate::form::{FormFault, read_form};
 use crate::plan::node_count;
 use crate::report::Report;
 use crate::report::making::report_from;
 use crate::report::order::sort_by_name;
 use crate::report::text::{reached_count, report_lines};
+use crate::runnable::runs_now;
 use crate::status::Status;
+use kn_netfile::{FileFault, read};
 use kn_plan::Net;
 use std::alloc::{AllocError, Global};
 use std::fmt;
+use thiserror::Error;
+
+/// The number of the refusal of a file that has no fault, and whose network does not run now.
+const NOT_YET: u8 = 0;
+
+/// Why the network of a file is not explored.
+#[derive(Debug, Drop, Error)]
+pub enum Unanswered {
+    /// The file is refused, and this line says why.
+    #[error("the file is refused")]
+    Refused(Vec<u8>),
+    /// Want of memory.
+    #[error("out of memory")]
+    Memory(AllocError),
+}
 
 /// The report of a network: what copying it whole at every branch gives at its last tick. It leaves nothing open.
 pub fn report_of_net(alloc: Global, net: &Net) -> Result<Report, Stop>
@@ -54,18 +71,6 @@ fn status_of(report: &Report) -> Status
     } else {
         Status::Found
     }
-}
-
-/// The answer for a file that is not of the form.
-fn refused(alloc: Global) -> Result<Told, AllocError>
-    ensures { IfOk result (λ t. (t.status ≡ Status.Refused) × (flat_map string_bytes t.lines.items ≡ not_form_line)) }
-{
-    let mut lines = Vec::new(alloc);
-    lines.push(String::from_str(alloc, "netsym: refused F0 -\n")?)?;
-    Ok(Told {
-        status: Status::Refused,
-        lines,
-    })
 }
 
 impl fmt::Display for LimitKind {
@@ -125,19 +130,53 @@ fn reported(alloc: Global, net: &Net) -> Result<Told, AllocError>
     }
 }
 
-/// The status and the lines for the bytes of a network file.
-pub fn answer(alloc: Global, bytes: &[u8]) -> Result<Told, AllocError>
-    ensures { IfOk result (λ t. Answers bytes.now t.status (flat_map string_bytes t.lines.items)) }
+/// The line that refuses a file by a number and a place.
+fn line_of(alloc: Global, number: u8, place: &[u8]) -> Result<Vec<u8>, AllocError>
+    ensures { IfOk result (λ line. line.items ≡ refusal_line number place.now) }
 {
-    match read_form(alloc, bytes) {
-        Ok(net) => {
-            let told = reported(alloc, &net)?;
-            Ok(told)
-        }
-        Err(FormFault::NotForm) => {
-            let told = refused(alloc)?;
-            Ok(told)
-        }
-        Err(FormFault::Memory(error)) => Err(error),
+    let mut line = format!(in alloc; "netsym: refused F{number} ")?.into_bytes();
+    line.extend_from_slice(place)?;
+    line.push(b'\n')?;
+    Ok(line)
+}
+
+/// The refusal of a file by a number and a place.
+fn refusal(alloc: Global, number: u8, place: &[u8]) -> Unanswered
+    ensures { Tells number place.now result }
+{
+    match line_of(alloc, number, place) {
+        Ok(line) => Unanswered::Refused(line),
+        Err(error) => Unanswered::Memory(error),
     }
+}
+
+/// The network of a file, where it runs now.
+///
+/// - `Refused`: the file has a fault, whose number and place the line gives, or its network does not run now.
+/// - `Memory`: want of memory.
+pub fn accepted(alloc: Global, bytes: &[u8]) -> Result<Net, Unanswered>
+    ensures accepted { IfOk result (λ net. IsAccepted bytes.now net.network) }
+    ensures sound { IfOk result (λ net. IsNet net.network) }
+    ensures refused { IfErr result (SaysWhy bytes.now) }
+{
+    let net = match read(alloc, bytes) {
+        Ok(net) => net,
+        Err(FileFault::Refused { number, place }) => {
+            return Err(refusal(alloc, number, &place.bytes));
+        }
+        Err(FileFault::Memory(error)) => return Err(Unanswered::Memory(error)),
+    };
+    if !runs_now(&net) {
+        return Err(refusal(alloc, NOT_YET, b"-"));
+    }
+    Ok(net)
+}
+
+/// The status and the lines for the bytes of a network file whose network is explored.
+pub fn answer(alloc: Global, bytes: &[u8]) -> Result<Told, Unanswered>
+    ensures told { IfOk result (λ t. Answers bytes.now t.status (flat_map string_bytes t.lines.items)) }
+    ensures refused { IfErr result (SaysWhy bytes.now) }
+{
+    let net = accepted(alloc, bytes)?;
+    reported(alloc, &net).map_err(Unanswered::Memory)
 }

@@ -1,7 +1,7 @@
-//! The top call on files that are almost of the form.
+//! The top call on files at the bounds and past them.
 
 use crate::status::Status;
-use crate::tests::{NOT_FORM, ends};
+use crate::tests::ends;
 use std::alloc::{AllocError, Global};
 use std::fmt::Write;
 use std::test::Fail;
@@ -86,71 +86,94 @@ fn no_text(alloc: Global, place: usize) -> Result<Vec<u8>, AllocError> {
     Ok(bytes)
 }
 
-#[test]
-fn files_at_the_bounds(rt: HostRuntime) -> Result<(), Fail> {
-    let alloc = rt.alloc();
-    let accepted = vec![in alloc;
-        (link(alloc, "0", "1", "1")?, REPORT),
-        (link(alloc, "0", "1", "65535")?, REPORT),
-        (links(alloc, 0)?, REPORT),
-        (links(alloc, 16)?, REPORT),
-        (long_program(alloc, 4096, "0fff")?, ALONE_REPORT),
-    ]?;
-    for (index, (file, report)) in accepted.iter().enumerate() {
-        assert!(rt;
-            ends(alloc, file.as_bytes(), Status::Clean, report)?,
-            "at {index}"
-        );
-    }
-    Ok(())
-}
-
-/// Files that are not of the form.
-fn refused_files(alloc: Global) -> Result<Vec<Vec<u8>>, AllocError> {
+/// Files that are accepted, with what is printed.
+fn accepted_files(alloc: Global) -> Result<Vec<(String, &'static str)>, AllocError> {
     let base = link(alloc, "0", "1", "1")?;
     Ok(vec![in alloc;
-        link(alloc, "0", "0", "1")?.into_bytes(),
-        link(alloc, "0", "2", "1")?.into_bytes(),
-        link(alloc, "2", "1", "1")?.into_bytes(),
-        links(alloc, 17)?.into_bytes(),
-        link(alloc, "0", "1", "0")?.into_bytes(),
-        link(alloc, "0", "1", "65536")?.into_bytes(),
-        link(alloc, "0", "1", "4294967297")?.into_bytes(),
-        link(alloc, "0", "1", "18446744073709551617")?.into_bytes(),
-        link(alloc, "0", "1", "01")?.into_bytes(),
-        link(alloc, "00", "1", "1")?.into_bytes(),
-        link(alloc, "0", "01", "1")?.into_bytes(),
-        link(alloc, "0", "1", "+1")?.into_bytes(),
-        link(alloc, "-0", "1", "1")?.into_bytes(),
-        link(alloc, "0", "1", "0x1")?.into_bytes(),
-        link(alloc, "0", "1", "1_0")?.into_bytes(),
-        link(alloc, "0", "1", "")?.into_bytes(),
-        link(alloc, "0", "1", "1 ")?.into_bytes(),
-        link(alloc, "0", "1", "1\r")?.into_bytes(),
-        link(alloc, "0", "1", "\u{661}")?.into_bytes(),
-        String::from_str(alloc, base.as_str().trim_end())?.into_bytes(),
-        format!(in alloc; "{base}\n")?.into_bytes(),
-        format!(in alloc; "\u{feff}{base}")?.into_bytes(),
-        format!(in alloc; "{PROGRAMS}{LINK}{NODES}")?.into_bytes(),
-        nodes(alloc, 65)?.into_bytes(),
-        long_program(alloc, 4097, "0000")?.into_bytes(),
-        long_program(alloc, 1, "0001")?.into_bytes(),
-        long_program(alloc, 0, "ffff")?.into_bytes(),
-        no_text(alloc, 0)?,
-        no_text(alloc, 11)?,
-        no_text(alloc, 40)?,
-        no_text(alloc, 100)?,
+        (link(alloc, "0", "1", "1")?, REPORT),
+        (link(alloc, "0", "1", "65535")?, REPORT),
+        (link(alloc, "0", "1", "+1")?, REPORT),
+        (link(alloc, "-0", "1", "1")?, REPORT),
+        (link(alloc, "0", "1", "0x1")?, REPORT),
+        (link(alloc, "0", "1", "1_0")?, REPORT),
+        (link(alloc, "0", "1", "1 # a comment")?, REPORT),
+        (link(alloc, "0", "1", "1\r")?, REPORT),
+        (links(alloc, 0)?, REPORT),
+        (links(alloc, 16)?, REPORT),
+        (String::from_str(alloc, base.as_str().trim_end())?, REPORT),
+        (format!(in alloc; "{base}\n")?, REPORT),
+        (format!(in alloc; "\u{feff}{base}")?, REPORT),
+        (format!(in alloc; "{PROGRAMS}{LINK}{NODES}")?, REPORT),
+        (long_program(alloc, 4096, "0fff")?, ALONE_REPORT),
+    ]?)
+}
+
+const NO_DOCUMENT: &str = "netsym: refused F2 -\n";
+
+const KIND: &str = "netsym: refused F5 link[0].delay\n";
+
+const CODE: &str = "netsym: refused F8 program[0].code\n";
+
+const TO: &str = "netsym: refused F10 link[0].to\n";
+
+const DELAY: &str = "netsym: refused F10 link[0].delay\n";
+
+/// Files that are refused, with what is printed.
+fn refused_files(alloc: Global) -> Result<Vec<(Vec<u8>, &'static str)>, AllocError> {
+    Ok(vec![in alloc;
+        (link(alloc, "0", "0", "1")?.into_bytes(), TO),
+        (link(alloc, "0", "2", "1")?.into_bytes(), TO),
+        (
+            link(alloc, "2", "1", "1")?.into_bytes(),
+            "netsym: refused F10 link[0].from\n"
+        ),
+        (
+            links(alloc, 17)?.into_bytes(),
+            "netsym: refused F10 link[16].from\n"
+        ),
+        (link(alloc, "0", "1", "0")?.into_bytes(), DELAY),
+        (link(alloc, "0", "1", "-1")?.into_bytes(), DELAY),
+        (link(alloc, "0", "1", "65536")?.into_bytes(), DELAY),
+        (link(alloc, "0", "1", "4294967297")?.into_bytes(), DELAY),
+        (link(alloc, "0", "1", "1.0")?.into_bytes(), KIND),
+        (link(alloc, "0", "1", "\"1\"")?.into_bytes(), KIND),
+        (link(alloc, "0", "1", "true")?.into_bytes(), KIND),
+        (
+            link(alloc, "0", "1", "18446744073709551617")?.into_bytes(),
+            NO_DOCUMENT
+        ),
+        (link(alloc, "0", "1", "01")?.into_bytes(), NO_DOCUMENT),
+        (link(alloc, "00", "1", "1")?.into_bytes(), NO_DOCUMENT),
+        (link(alloc, "0", "01", "1")?.into_bytes(), NO_DOCUMENT),
+        (link(alloc, "0", "1", "")?.into_bytes(), NO_DOCUMENT),
+        (link(alloc, "0", "1", "\u{661}")?.into_bytes(), NO_DOCUMENT),
+        (nodes(alloc, 65)?.into_bytes(), "netsym: refused F7 node\n"),
+        (long_program(alloc, 4097, "0000")?.into_bytes(), CODE),
+        (long_program(alloc, 1, "0001")?.into_bytes(), CODE),
+        (long_program(alloc, 0, "ffff")?.into_bytes(), CODE),
+        (no_text(alloc, 0)?, NO_DOCUMENT),
+        (no_text(alloc, 11)?, NO_DOCUMENT),
+        (no_text(alloc, 40)?, NO_DOCUMENT),
+        (no_text(alloc, 100)?, NO_DOCUMENT),
     ]?)
 }
 
 #[test]
-fn files_past_the_bounds(rt: HostRuntime) -> Result<(), Fail> {
-    let files = refused_files(rt.alloc())?;
-    assert_eq!(rt; files.len(), 31);
-    for (index, file) in files.iter().enumerate() {
+fn files_at_the_bounds_and_past_them(rt: HostRuntime) -> Result<(), Fail> {
+    let accepted = accepted_files(rt.alloc())?;
+    assert_eq!(rt; accepted.len(), 15);
+    for (index, (file, text)) in accepted.iter().enumerate() {
         assert!(rt;
-            ends(rt.alloc(), file, Status::Refused, NOT_FORM)?,
-            "at {index}"
+            ends(rt.alloc(), file.as_bytes(), Status::Clean, text)?,
+            "accepted at {index}"
+        );
+    }
+    let refused = refused_files(rt.alloc())?;
+    assert_eq!(rt; refused.len(), 25);
+    for (index, (file, text)) in refused.iter().enumerate() {
+        assert!(rt;
+            ends(rt.alloc(), file, Status::Refused, text)?,
+            "refused at {index}"
         );
     }
     Ok(())

@@ -3,14 +3,15 @@
 
 mod answer;
 mod explore;
-mod form;
 mod output;
 mod plan;
 mod report;
+mod runnable;
 mod status;
 mod top;
 mod valuation;
 
+pub use runnable::{is_plain, runs_now};
 pub use status::Status;
 pub use top::{run_alone, words_ok};
 

@@ -18,6 +18,9 @@ pub struct Row {
 /// Nothing in the file is written anew.
 const AS_IT_STANDS: (&str, &str) = ("ticks", "ticks");
 
+/// A file without a fault, whose network does not run now.
+const NOT_YET: &str = "netsym: refused F0 -\n";
+
 /// Two nodes that take an input of one bit and branch on it.
 pub const HALVES: &str = "version = 1
 ticks = 1
@@ -1089,7 +1092,7 @@ const MORE_SCENARIOS_THAN_THE_LIMIT_REPORT: &str = "netsym: limit dstates tick 1
 ";
 
 /// All worked files.
-pub const ROWS: [Row; 36] = [
+pub const ROWS: [Row; 50] = [
     Row {
         name: "halves",
         file: HALVES,
@@ -1341,5 +1344,109 @@ pub const ROWS: [Row; 36] = [
         change: AS_IT_STANDS,
         status: Status::Limit,
         text: MORE_SCENARIOS_THAN_THE_LIMIT_REPORT,
+    },
+    Row {
+        name: "a fuel of the file",
+        file: EXACTLY_THE_FUEL,
+        change: ("ticks = 1\n", "ticks = 1\nfuel = 511\n"),
+        status: Status::Found,
+        text: EXACTLY_THE_FUEL_ONE_TOO_MANY,
+    },
+    Row {
+        name: "two paths and two states",
+        file: CAREFUL,
+        change: ("ticks = 1\n", "ticks = 1\nstates = 2\n"),
+        status: Status::Found,
+        text: CAREFUL_REPORT,
+    },
+    Row {
+        name: "two paths and one state",
+        file: CAREFUL,
+        change: ("ticks = 1\n", "ticks = 1\nstates = 1\n"),
+        status: Status::Limit,
+        text: "netsym: limit states tick 0\n",
+    },
+    Row {
+        name: "two scenarios and two dstates",
+        file: ONE_PACKET_OR_NONE,
+        change: ("ticks = 2\n", "ticks = 2\ndstates = 2\n"),
+        status: Status::Clean,
+        text: ONE_PACKET_OR_NONE_REPORT,
+    },
+    Row {
+        name: "two scenarios and one dstate",
+        file: ONE_PACKET_OR_NONE,
+        change: ("ticks = 2\n", "ticks = 2\ndstates = 1\n"),
+        status: Status::Limit,
+        text: "netsym: limit dstates tick 0\n",
+    },
+    Row {
+        name: "nothing is lost and nobody reboots",
+        file: HALVES,
+        change: (
+            "program = \"half\"\n",
+            "program = \"half\"\nloss = 0\nduplicate = 0\nreboot = []\n",
+        ),
+        status: Status::Clean,
+        text: HALVES_REPORT,
+    },
+    Row {
+        name: "an input of two bits",
+        file: HALVES,
+        change: ("0a00000000010000", "0a00000000020000"),
+        status: Status::Refused,
+        text: NOT_YET,
+    },
+    Row {
+        name: "an operator",
+        file: HALVES,
+        change: ("0900000000020000", "1000000000000000"),
+        status: Status::Refused,
+        text: NOT_YET,
+    },
+    Row {
+        name: "a packet may be lost",
+        file: HALVES,
+        change: ("program = \"half\"\n", "program = \"half\"\nloss = 1\n"),
+        status: Status::Refused,
+        text: NOT_YET,
+    },
+    Row {
+        name: "a packet may be doubled",
+        file: HALVES,
+        change: (
+            "program = \"half\"\n",
+            "program = \"half\"\nduplicate = 1\n",
+        ),
+        status: Status::Refused,
+        text: NOT_YET,
+    },
+    Row {
+        name: "a node may reboot",
+        file: HALVES,
+        change: ("program = \"half\"\n", "program = \"half\"\nreboot = [0]\n"),
+        status: Status::Refused,
+        text: NOT_YET,
+    },
+    Row {
+        name: "a fault comes before what does not run",
+        file: HALVES,
+        change: ("program = \"half\"\n", "program = \"half\"\nloss = 16\n"),
+        status: Status::Refused,
+        text: "netsym: refused F11 node[0].loss\n",
+    },
+    Row {
+        name: "a delay of no tick",
+        file: ONE_PACKET_OR_NONE,
+        change: ("delay = 1", "delay = 0"),
+        status: Status::Refused,
+        text: "netsym: refused F10 link[0].delay\n",
+    },
+    Row {
+        name: "a key that is not listed",
+        file: ONE_PACKET_OR_NONE,
+        change: ("ticks = 2\n", "colour = 1\nticks = 2\n"),
+        status: Status::Refused,
+        text: "netsym: refused F3 top\n",
     },
 ];

@@ -12,7 +12,7 @@ pub enum Status {
     Found,
     /// 2: the words are no command.
     Usage,
-    /// 3: the file is too long, or not of the form.
+    /// 3: the file is refused: it has a fault, or its network does not run now.
     Refused,
     /// 4: the source failed.
     ReadFault,

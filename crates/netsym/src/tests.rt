@@ -10,8 +10,6 @@ use std::test::Fail;
 
 pub const COMMAND: [&str; 3] = ["explore", "--mapping", "cob"];
 
-pub const NOT_FORM: &str = "netsym: refused F0 -\n";
-
 /// The status of a call, and what it wrote.
 #[derive(Debug, Drop)]
 struct Ran {
@@ -77,7 +75,13 @@ fn calls_that_end_early(rt: HostRuntime) -> Result<(), Fail> {
             Status::Usage,
             "netsym: not a command line\n",
         ),
-        (&COMMAND, b"", &[], Status::Refused, NOT_FORM),
+        (
+            &COMMAND,
+            b"",
+            &[],
+            Status::Refused,
+            "netsym: refused F4 version\n",
+        ),
         (
             &COMMAND,
             &long,
@@ -109,20 +113,47 @@ fn each_write_fails(rt: HostRuntime) -> Result<(), Fail> {
     Ok(())
 }
 
+/// What the file of two nodes is answered where it ends after none of its lines, after one, and on.
+const AFTER_LINES: [(Status, &str); 10] = [
+    (Status::Refused, "netsym: refused F4 version\n"),
+    (Status::Refused, "netsym: refused F4 ticks\n"),
+    (Status::Refused, "netsym: refused F4 program\n"),
+    (Status::Refused, "netsym: refused F4 node\n"),
+    (Status::Refused, "netsym: refused F4 node\n"),
+    (Status::Refused, "netsym: refused F4 node\n"),
+    (Status::Refused, "netsym: refused F4 node[0].program\n"),
+    (Status::Clean, HALF_REPORT),
+    (Status::Refused, "netsym: refused F4 node[1].program\n"),
+    (Status::Clean, HALVES_REPORT),
+];
+
+/// What it is answered where it ends within a line.
+const WITHIN_A_LINE: (Status, &str) = (Status::Refused, "netsym: refused F2 -\n");
+
+/// What it is answered where it ends with so many of its lines.
+fn answer_after(lines: usize) -> (Status, &'static str) {
+    AFTER_LINES.get(lines).copied().unwrap_or(WITHIN_A_LINE)
+}
+
+/// What a front of the file is answered, where the rest is left out.
+fn answer_of_front(front: &[u8], rest: &[u8]) -> (Status, &'static str) {
+    let line_feeds = front.iter().filter(|byte| **byte == b'\n').count();
+    if front.is_empty() || front.ends_with(b"\n") {
+        answer_after(line_feeds)
+    } else if rest.starts_with(b"\n") {
+        answer_after(line_feeds.saturating_add(1))
+    } else {
+        WITHIN_A_LINE
+    }
+}
+
 #[test]
 fn each_front_of_a_file(rt: HostRuntime) -> Result<(), Fail> {
     let file = HALVES.as_bytes();
-    let one_node = file.len() - "[[node]]\nprogram = \"half\"\n".len();
     for length in 0..file.len() {
-        let (status, text) = if length == one_node {
-            (Status::Clean, HALF_REPORT)
-        } else {
-            (Status::Refused, NOT_FORM)
-        };
-        assert!(rt;
-            ends(rt.alloc(), &file[..length], status, text)?,
-            "front of {length}"
-        );
+        let (front, rest) = file.split_at(length);
+        let (status, text) = answer_of_front(front, rest);
+        assert!(rt; ends(rt.alloc(), front, status, text)?, "front of {length}");
     }
     Ok(())
 }

@@ -5,7 +5,7 @@ ghost use Rattle.kn_io.specs.Causes.{Rose};
 ghost use Rattle.netsym.specs.Runs.{IsCommand, words_of, Runs};
 ghost use Rattle.netsym.specs.Exact.{IsUsage, IsExact};
 
-use crate::answer::answer;
+use crate::answer::{Unanswered, answer};
 use crate::output::write_lines;
 use crate::status::Status;
 use kn_io::{Failed, ReadStop, Sink, Source, read_all, write_all};
@@ -65,13 +65,17 @@ fn run_once<S: Source, K: Sink>(
     };
     match answer(alloc, &bytes) {
         Ok(told) => ended(told.status, write_lines(sink, &told.lines)),
-        Err(_) => ended(Status::Memory, write_all(sink, b"netsym: out of memory\n")),
+        Err(Unanswered::Refused(line)) => ended(Status::Refused, write_all(sink, &line)),
+        Err(Unanswered::Memory(_)) => {
+            ended(Status::Memory, write_all(sink, b"netsym: out of memory\n"))
+        }
     }
 }
 
 /// Does all that the program does, and waits for nobody: for the words of the command it reads a network file to its end,
-/// explores the network by copying it whole at every branch, and writes the report line by line, or the one line that
-/// names a limit that the network passes and the tick. The whole text is made before its first byte is written.
+/// explores the network by copying it whole at every branch, and writes the report line by line, or one line: the number
+/// and the place of the file's fault, or a limit that the network passes and the tick. The whole text is made before its
+/// first byte is written.
 pub fn run_alone<S: Source, K: Sink>(
     alloc: Global,
     words: &[&str],

@@ -1,7 +1,7 @@
 //! Small networks, copied whole at every branch.
 
 use super::*;
-use crate::form::read_form;
+use crate::answer::accepted;
 use std::alloc::Global;
 use std::test::Fail;
 
@@ -47,14 +47,14 @@ program = \"one\"
 
 /// All copies before a tick of the network of a file.
 fn copies_of(alloc: Global, file: &str, tick: u32) -> Result<Vec<NetworkCopy>, Fail> {
-    let net = read_form(alloc, file.as_bytes())?;
+    let net = accepted(alloc, file.as_bytes())?;
     let copies = all_copies(alloc, &net, tick)?;
     Ok(copies)
 }
 
 /// The scenarios of the network of a file that are not left out.
 fn scenarios_of(alloc: Global, file: &str) -> Result<Vec<Scenario>, Fail> {
-    let net = read_form(alloc, file.as_bytes())?;
+    let net = accepted(alloc, file.as_bytes())?;
     let scenarios = explore(alloc, &net)?;
     Ok(scenarios)
 }

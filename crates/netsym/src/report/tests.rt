@@ -1,7 +1,7 @@
 //! Scenarios of several small networks, in the order of their names.
 
+use crate::answer::accepted;
 use crate::explore::{Scenario, explore};
-use crate::form::read_form;
 use crate::report::order::sort_by_name;
 use std::alloc::Global;
 use std::test::Fail;
@@ -25,7 +25,7 @@ fn scenarios_of(alloc: Global, first: &str, second: &str) -> Result<Vec<Scenario
     let nodes = format!(in alloc;
         "{PROGRAMS}[[node]]\nprogram = \"{first}\"\n[[node]]\nprogram = \"{second}\"\n"
     )?;
-    let net = read_form(alloc, nodes.as_bytes())?;
+    let net = accepted(alloc, nodes.as_bytes())?;
     Ok(explore(alloc, &net)?)
 }
 

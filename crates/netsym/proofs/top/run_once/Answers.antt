@@ -48,10 +48,22 @@ returns-in-Ok-answer-clause-runs g c = record {
   text = flat_map string_bytes c.in-Ok-answer.told.lines.items;
   right = right_by _ _ _ c.in-Ok.bytes.items c.in-Ok-answer.told.status _ (is_command c.words_ok.result c.words_ok.ensures c.if-not-words_ok.false)
       (record { all = c.in-Ok.ensures.all; end = c.in-Ok.ensures.end; fits = c.in-Ok.ensures.fits })
-      (rw c.deref.ensures.value at c.in-Ok-answer.ensures);
-  cause = λ is. answer_is_no_fault _ _ _ is (rw c.deref.ensures.value at c.in-Ok-answer.ensures);
+      (rw c.deref.ensures.value at c.in-Ok-answer.ensures.told);
+  cause = λ is. answer_is_no_fault _ _ _ is (rw c.deref.ensures.value at c.in-Ok-answer.ensures.told);
   written = written_by _ _ _ c.in-Ok-answer.told.status c.ended-in-Ok-answer.result c.write_lines.result c.ended-in-Ok-answer.ensures
       (rw c.deref-in-Ok-answer.ensures.value at c.write_lines.ensures.all) (rw c.deref-in-Ok-answer.ensures.value at c.write_lines.ensures.front);
+}
+
+pub returns-in-Err-Refused-clause-runs : goal.returns-in-Err-Refused-clause-runs
+returns-in-Err-Refused-clause-runs g c = record {
+  verdict = statuses.Refused;
+  text = c.in-Err-Refused.line.items;
+  right = right_by _ _ _ c.in-Ok.bytes.items statuses.Refused _ (is_command c.words_ok.result c.words_ok.ensures c.if-not-words_ok.false)
+      (record { all = c.in-Ok.ensures.all; end = c.in-Ok.ensures.end; fits = c.in-Ok.ensures.fits })
+      (rw (c.deref.ensures.value, c.in-Err-Refused.field-0-is) at c.in-Err-Refused.ensures.refused);
+  cause = λ is. absurd cc;
+  written = written_by _ _ _ statuses.Refused c.ended-in-Err-Refused.result c.write_all-in-Err-Refused.result c.ended-in-Err-Refused.ensures
+      (rw c.deref-in-Err-Refused.ensures.value at c.write_all-in-Err-Refused.ensures.all) (rw c.deref-in-Err-Refused.ensures.value at c.write_all-in-Err-Refused.ensures.front);
 }
 
 pub returns-clause-runs : goal.returns-clause-runs
@@ -60,5 +72,5 @@ returns-clause-runs g c = record {
   text = memory_line;
   right = (is_command c.words_ok.result c.words_ok.ensures c.if-not-words_ok.false, taken_whole _ _ c.in-Ok.bytes.items (record { all = c.in-Ok.ensures.all; end = c.in-Ok.ensures.end; fits = c.in-Ok.ensures.fits }), refl);
   cause = λ is. absurd cc;
-  written = written_by _ _ _ statuses.Memory c.ended-in-Err.result c.write_all-in-Err.result c.ended-in-Err.ensures c.write_all-in-Err.ensures.all c.write_all-in-Err.ensures.front;
+  written = written_by _ _ _ statuses.Memory c.ended-in-Err-Memory-answer.result c.write_all-in-Err-Memory-answer.result c.ended-in-Err-Memory-answer.ensures c.write_all-in-Err-Memory-answer.ensures.all c.write_all-in-Err-Memory-answer.ensures.front;
 }
