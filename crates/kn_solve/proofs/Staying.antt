@@ -158,8 +158,8 @@ comes_before b n k (r ∷ rs) (w ∷ ws) rising are lower same = go (comes_befor
       let first : listed b r.node r.index ≡ w = same r.node r.index read after ∙ own_word r rs w ws r.node r.index is in
       same_first (listed b r.node r.index % 2 ^ r.width) w (cut_words b rs) ws (ap (λ (x : ℕ). x % 2 ^ r.width) first ∙ mod-eq_of_lt are.0)
       ∙ more (omega (arith, lower, rest)) (λ m j one before.
-          let own : (nat_eq r.node m && nat_eq r.index j) ≡ false = apart r.node r.index m j (read_behind r.node r.index m j rs rising.0 one) in
-          same m j (ap (λ (x : Bool). if x then true else is_read rs m j) own ∙ one) before ∙ other_word r rs w ws m j own)
+      let own : (nat_eq r.node m && nat_eq r.index j) ≡ false = apart r.node r.index m j (read_behind r.node r.index m j rs rising.0 one) in
+      same m j (ap (λ (x : Bool). if x then true else is_read rs m j) own ∙ one) before ∙ other_word r rs w ws m j own)
 
 -- ---- what asks more
 
@@ -196,7 +196,7 @@ module _ (law : OneList) (q p : Query) (rising : AreRising q.reads) (wide : AreR
   stays =
       let is : a ≡ valuation_of p.reads (cut_words a p.reads) =
       law a (valuation_of p.reads (cut_words a p.reads)) (subst AreEntries (sym least.is) (valuation_entries q.reads words rising)) (valuation_entries p.reads (cut_words a p.reads) wide) (λ n k.
-          sym (listed_word p.reads (cut_words a p.reads) n k wide ∙ kept n k)) in
+      sym (listed_word p.reads (cut_words a p.reads) n k wide ∙ kept n k)) in
       record {
         given_words = cut_words a p.reads;
         is = is;
@@ -206,10 +206,10 @@ module _ (law : OneList) (q p : Query) (rising : AreRising q.reads) (wide : AreR
             let b = valuation_of p.reads vs in
             let spelled : (n k : ℕ) → listed b n k ≡ word_at p.reads vs n k = λ n k. listed_word p.reads vs n k wide in
             let cut : q.meets (valuation_of q.reads (cut_words b q.reads)) ≡ q.meets b = rests (valuation_of q.reads (cut_words b q.reads)) b (λ n k.
-                ap (λ (w : ℕ). w % 2 ^ width_at q.reads n k) (listed_word q.reads (cut_words b q.reads) n k rising ∙ cut_word_at b q.reads n k) ∙ mod-mod (listed b n k) (2 ^ width_at q.reads n k)) in
+            ap (λ (w : ℕ). w % 2 ^ width_at q.reads n k) (listed_word q.reads (cut_words b q.reads) n k rising ∙ cut_word_at b q.reads n k) ∙ mod-mod (listed b n k) (2 ^ width_at q.reads n k)) in
             least.least (cut_words b q.reads) (cut_are_words b q.reads, cut ∙ more.meets b met.1)
             (comes_before b d.node d.index q.reads words rising least.meet.0 (omega (arith, d.lower, spelled d.node d.index, kept d.node d.index, given d.node d.index)) (λ m j one earlier.
-                spelled m j ∙ (d.same m j earlier ∙ (kept m j ∙ given m j))));
+            spelled m j ∙ (d.same m j earlier ∙ (kept m j ∙ given m j))));
       }
 
 -- ---- formulas
@@ -254,10 +254,15 @@ columns_reads_append (cs ∷ css) ds n k =
 
 more_wider : (f : Asked) (c : Condition) (columns : List (List Condition)) (n k : ℕ) → width_at (query_of f).reads n k ≤ width_at (query_of (with_more f c columns)).reads n k
 more_wider f c columns n k =
-    omega (arith, formula_width f n k, formula_width (with_more f c columns) n k,
+    omega (
+      arith,
+      formula_width f n k,
+      formula_width (with_more f c columns) n k,
       greatest_append (reads_of f.condition) (flat_map (λ cs. flat_map reads_of cs) f.columns) n k,
       greatest_append (reads_of (f.condition ++ c)) (flat_map (λ cs. flat_map reads_of cs) (f.columns ++ columns)) n k,
-      reads_append f.condition c n k, columns_reads_append f.columns columns n k)
+      reads_append f.condition c n k,
+      columns_reads_append f.columns columns n k,
+    )
 
 pub least_stays : OneList → WordsByInputs → LeastStays
 least_stays law words f c columns a least meets =
