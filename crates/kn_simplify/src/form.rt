@@ -1,6 +1,6 @@
 //! Simpler forms of nodes.
 
-ghost use Rattle.std.specs.Prelude.{◌≡◌, ◌<◌, length, true, MatchOption, IfOk, OnErr};
+ghost use Rattle.std.specs.Prelude.{◌≡◌, ◌↔◌, ◌<◌, length, true, IsTrue, MatchOption, IfOk, OnErr};
 ghost use Rattle.kn_built.specs.Built.{Extends};
 ghost use Rattle.kn_word.specs.declared.Op.{Op as OpOf};
 ghost use Rattle.kn_term.specs.declared.node.Ref.{Ref as RefOf};
@@ -49,7 +49,7 @@ fn form_of_operator(terms: &Terms, op: Op, x: Ref, y: Ref) -> Option<Form>
     terms.order();
     let left = word_of(terms, x);
     let right = word_of(terms, y);
-    let same = are_same(terms, x, y);
+    let same = are_same(x, y);
     match outcome_of(op, left, right, same) {
         Some(Outcome::Word(word)) => Some(Form::Word(word)),
         Some(Outcome::Left) => Some(Form::Term(x)),
@@ -66,7 +66,7 @@ fn form_of_choice(terms: &Terms, c: Ref, x: Ref, y: Ref) -> Option<Form>
     ensures { MatchOption result (IsFoldedTop (Choice (term_at terms.now c.index) (term_at terms.now x.index) (term_at terms.now y.index))) (λ f. IsFormOf terms.now f (Choice (term_at terms.now c.index) (term_at terms.now x.index) (term_at terms.now y.index))) }
 {
     let condition = word_of(terms, c);
-    let same = are_same(terms, x, y);
+    let same = are_same(x, y);
     match condition {
         Some(0) => Some(Form::Term(y)),
         Some(_) => Some(Form::Term(x)),
@@ -86,16 +86,11 @@ fn word_of(terms: &Terms, r: Ref) -> Option<u16>
     }
 }
 
-/// Whether two terms have the same node, so that they are one term.
-fn are_same(terms: &Terms, x: Ref, y: Ref) -> bool
-    requires x { x.index < length terms.now }
-    requires y { y.index < length terms.now }
-    ensures term { result ≡ true → term_at terms.now x.index ≡ term_at terms.now y.index }
-    ensures same { x ≡ y → result ≡ true }
+/// Whether two Refs name one term: no node stands twice in a list.
+fn are_same(x: Ref, y: Ref) -> bool
+    ensures { IsTrue result ↔ (x ≡ y) }
 {
-    let left = terms.node(x);
-    let right = terms.node(y);
-    left == right
+    x == y
 }
 
 /// The term of a form, as a term of the list. Err is want of memory, and leaves the list as it was.
@@ -109,5 +104,21 @@ pub fn enter(terms: &mut Terms, form: Form) -> Result<Ref, AllocError>
     match form {
         Form::Word(word) => terms.konst(word),
         Form::Term(r) => Ok(r),
+    }
+}
+
+/// A node as a term of the list. Err is want of memory, and leaves the list as it was.
+pub fn put(terms: &mut Terms, node: Node) -> Result<Ref, AllocError>
+    requires { IsNodeAt (length terms.old) node }
+    ensures term { IfOk result (λ r. term_at terms.new r.index ≡ term_of (terms_of terms.old) node) }
+    ensures stands { IfOk result (λ r. r.index < length terms.new) }
+    ensures grows { Extends terms.old terms.new }
+    ensures err { OnErr result (terms.new ≡ terms.old) }
+{
+    match node {
+        Node::Konst(word) => terms.konst(word),
+        Node::Input { node, index, width } => terms.input(node, index, width),
+        Node::Apply(op, x, y) => terms.apply(op, x, y),
+        Node::Ite(c, x, y) => terms.ite(c, x, y),
     }
 }

@@ -4,9 +4,11 @@
 
 mod form;
 mod laws;
+mod made;
 mod top;
 mod whole;
 
+pub use made::{apply, ite};
 pub use std::alloc::AllocError as Memory;
 pub use top::simplify_top;
 pub use whole::simplify;

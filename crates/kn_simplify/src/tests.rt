@@ -219,3 +219,59 @@ fn folds_from_the_operands_up(rt: HostRuntime) -> Result<(), Fail> {
     assert!(rt; matches!(terms.node(whole), Node::Apply(Op::Add, _, y) if y == x));
     Ok(())
 }
+
+/// An operator on an input and a word, as made: the node, or None where it is the input.
+#[tactic(auto, using(kn_term::proofs::Kept::kept))]
+fn applied(alloc: Global, op: Op, word: u16) -> Result<Option<Node>, Memory> {
+    let mut terms = Terms::new(alloc);
+    let x = terms.input(1, 2, 16)?;
+    let y = terms.konst(word)?;
+    let r = apply(&mut terms, op, x, y)?;
+    if r == x {
+        return Ok(None);
+    }
+    Ok(Some(terms.node(r)))
+}
+
+/// A choice between an input and a word, as made, by a word or else by the input: the node.
+#[tactic(auto, using(kn_term::proofs::Kept::kept))]
+fn chosen(alloc: Global, condition: Option<u16>) -> Result<Node, Memory> {
+    let mut terms = Terms::new(alloc);
+    let x = terms.input(1, 2, 16)?;
+    let y = terms.konst(7)?;
+    let c = match condition {
+        Some(word) => terms.konst(word)?,
+        None => x,
+    };
+    let r = ite(&mut terms, c, x, y)?;
+    Ok(terms.node(r))
+}
+
+#[test]
+fn makes_terms_that_are_simple(rt: HostRuntime) -> Result<(), Fail> {
+    let (x, y) = (Ref { index: 0 }, Ref { index: 1 });
+    for (op, word, made) in [
+        (Op::Xor, 0, None),
+        (Op::Mul, 0, Some(Node::Konst(0))),
+        (Op::Sub, 3, Some(Node::Apply(Op::Sub, x, y))),
+    ] {
+        let node = applied(rt.alloc(), op, word)?;
+        assert!(rt; node == made, "at {op:?} {word}");
+    }
+    for (condition, made) in [
+        (Some(0), Node::Konst(7)),
+        (
+            Some(2),
+            Node::Input {
+                node: 1,
+                index: 2,
+                width: 16,
+            },
+        ),
+        (None, Node::Ite(x, x, y)),
+    ] {
+        let node = chosen(rt.alloc(), condition)?;
+        assert!(rt; node == made, "at {condition:?}");
+    }
+    Ok(())
+}

@@ -9,7 +9,7 @@ ghost use Rattle.kn_term.specs.Reached.{AreInOrder};
 ghost use Rattle.kn_simplify.specs.Folded.{IsFolded, HasFoldedOperands, HasFoldedFor, AreFolded};
 ghost use Rattle.kn_simplify.specs.Simpler.{StandsFor, IsSimpler, AreSimpler, simpler_in};
 
-use crate::form::{enter, form_of};
+use crate::form::{enter, form_of, put};
 use kn_term::{Node, Ref, Terms, reached};
 use std::alloc::{AllocError, Global};
 use std::collections::HashMap;
@@ -95,19 +95,4 @@ fn simpler(r: Ref, table: &HashMap<usize, Ref>) -> Ref
     ensures { result ≡ simpler_in table.now r.index }
 {
     table.get(&r.index).copied().unwrap_or(r)
-}
-
-/// A node as a term of the list. Err is want of memory.
-fn put(terms: &mut Terms, node: Node) -> Result<Ref, AllocError>
-    requires { IsNodeAt (length terms.old) node }
-    ensures term { IfOk result (λ r. term_at terms.new r.index ≡ term_of (terms_of terms.old) node) }
-    ensures stands { IfOk result (λ r. r.index < length terms.new) }
-    ensures grows { Extends terms.old terms.new }
-{
-    match node {
-        Node::Konst(word) => terms.konst(word),
-        Node::Input { node, index, width } => terms.input(node, index, width),
-        Node::Apply(op, x, y) => terms.apply(op, x, y),
-        Node::Ite(c, x, y) => terms.ite(c, x, y),
-    }
 }

@@ -9,4 +9,4 @@ pub returns-in-None-clause-form : goal.returns-in-None-clause-form
 returns-in-None-clause-form c = top_needed c.args.op _ _ _ _ _ c.word_of-left.ensures c.word_of-right.ensures c.in-None.ensures
 
 pub returns-in-None-clause-twice : goal.returns-in-None-clause-twice
-returns-in-None-clause-twice c = λ e idle. none_idle c.args.op _ _ _ _ _ (ap (λ (r : Ref). term_at c.args.terms.now r.index) e) c.word_of-left.ensures c.word_of-right.ensures c.in-None.ensures (c.are_same-same.ensures.same e) idle
+returns-in-None-clause-twice c = λ e idle. none_idle c.args.op _ _ _ _ _ (ap (λ (r : Ref). term_at c.args.terms.now r.index) e) c.word_of-left.ensures c.word_of-right.ensures c.in-None.ensures (c.are_same-same.ensures.1 e) idle
