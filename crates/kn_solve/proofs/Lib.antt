@@ -10,3 +10,4 @@ pub mod Answering
 pub mod Opening
 pub mod Found
 pub mod Staying
+pub mod Further

@@ -1,11 +1,13 @@
 //! Who is asked what is known of a formula.
 
-ghost use Rattle.std.specs.Prelude.{◌≤◌, IfOk};
+ghost use Rattle.std.specs.Prelude.{◌≤◌, ℕ, IfOk, MatchOption};
+ghost use Rattle.kn_cond.specs.Conditions.{Query, IsImpossible, StandsFor};
 ghost use Rattle.kn_solve.specs.Formulas.{query_of};
 ghost use Rattle.kn_solve.specs.Verdicts.{IsJudged};
 
 use crate::asking::{Verdict, ask};
 use crate::formula::Formula;
+use kn_cond::Standing;
 use kn_term::Valuation;
 use std::alloc::AllocError;
 
@@ -18,6 +20,19 @@ pub enum Judged {
     Never,
     /// It was not decided: at least so many valuations come before each one that meets it.
     Undecided { leaves: u64 },
+}
+
+impl Judged {
+    /// What is kept of the answer with a condition: None where no inputs meet it.
+    pub fn standing(self) -> Option<Standing>
+        ensures { (budget : ℕ) (q : Query) → IsJudged budget q self → MatchOption result (IsImpossible q) (StandsFor budget q) }
+    {
+        match self {
+            Judged::Met(inputs) => Some(Standing::Inputs(inputs)),
+            Judged::Never => None,
+            Judged::Undecided { leaves } => Some(Standing::Open { leaves }),
+        }
+    }
 }
 
 /// Answers what is known of formulas.

@@ -5,12 +5,14 @@ mod asking;
 mod formula;
 mod judge;
 mod laws;
+mod more;
 mod whole;
 
 pub use asking::{Verdict, ask};
 pub use formula::Formula;
 pub use judge::{Judge, Judged, Plain};
 pub use laws::{least_is_one, least_stays, never_stays, standing_is_live, without_columns};
+pub use more::ask_more;
 pub use std::alloc::AllocError as Memory;
 
 #[cfg(test)]
