@@ -1,0 +1,3 @@
+-- The lemmas on node states.
+pub mod Standing
+pub mod Equal

@@ -1,0 +1,68 @@
+//! What a node does next in a tick.
+
+ghost use Rattle.std.specs.Prelude.{◌≡◌, ◌<◌, ◌≤◌, drop, length, List, Option, ℕ};
+ghost use Rattle.kn_node.specs.Due.{due, mail_or_timer, has, is_set_to, timer_from};
+
+use crate::config::Config;
+use crate::machine::{Machine, Outcome};
+use kn_packet::Event;
+
+/// The first event that is due for a node in a tick: its boot at tick 0, a reboot, the first packet that arrives then, or
+/// the lowest timer that is set to it. None exactly where nothing is due.
+pub fn next_event(c: &Config, tick: u32) -> Option<Event>
+    ensures { result ≡ due tick c.now.machine }
+{
+    let machine = &c.machine;
+    if machine.outcome != Outcome::Running {
+        return None;
+    }
+    if tick == 0 && !machine.booted {
+        return Some(Event::Boot);
+    }
+    if has(&machine.reboots, tick) {
+        return Some(Event::Reboot);
+    }
+    mail_or_timer(machine, tick)
+}
+
+/// The first packet that arrives in a tick, or else the lowest timer that is set to it.
+fn mail_or_timer(machine: &Machine, tick: u32) -> Option<Event>
+    ensures { result ≡ mail_or_timer tick machine.now.queue machine.now.timers }
+{
+    machine.sizes();
+    match machine.queue.due(tick) {
+        Some(packet) => Some(Event::Packet {
+            from: packet.from,
+            seq: packet.seq,
+            copy: packet.copy,
+        }),
+        None => timer_at(&machine.timers, tick),
+    }
+}
+
+/// The lowest timer that is set to a tick.
+fn timer_at(timers: &[Option<u32>], tick: u32) -> Option<Event>
+    requires { length timers.now ≤ 8 }
+    ensures { result ≡ timer_from tick 0 timers.now }
+{
+    for (number, timer) in timers.iter().enumerate() {
+        if *timer == Some(tick) {
+            return Some(Event::Timer {
+                number: number as u8,
+            });
+        }
+    }
+    None
+}
+
+/// Whether a tick is among these.
+fn has(ticks: &[u32], tick: u32) -> bool
+    ensures { result ≡ has tick ticks.now }
+{
+    for other in ticks {
+        if *other == tick {
+            return true;
+        }
+    }
+    false
+}
