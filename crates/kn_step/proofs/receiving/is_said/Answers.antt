@@ -1,0 +1,15 @@
+-- A literal of one condition or of the other.
+use Rattle.kn_cond.specs.Meanings.{condition_of, literal_of}
+use Rattle.kn_step.proofs.OneMore.{among_implies}
+use Rattle.kn_step.proofs.Received.{front_implies, behind_implies}
+use Rattle.kn_step.proofs.receiving.is_said.Goals as goal
+
+pub returns-then-is_among : goal.returns-then-is_among
+returns-then-is_among c = λ t.
+    let ns = c.args.terms.now in
+    front_implies (condition_of ns c.args.c.now) (condition_of ns c.args.more.now) (literal_of ns c.args.literal) (among_implies ns c.args.c.now c.args.literal (c.is_among.ensures t))
+
+pub returns-else-is_among : goal.returns-else-is_among
+returns-else-is_among c = λ t.
+    let ns = c.args.terms.now in
+    behind_implies (condition_of ns c.args.c.now) (condition_of ns c.args.more.now) (literal_of ns c.args.literal) (among_implies ns c.args.more.now c.args.literal (c.is_among-else-is_among.ensures t))

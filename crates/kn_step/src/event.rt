@@ -1,0 +1,179 @@
+//! Event runs.
+
+ghost use Rattle.std.specs.Prelude.{◌≡◌, ◌+◌, ◌<◌, None, Some, Bool, List, length, IfOk, IfErr, OnOk};
+ghost use Rattle.std.specs.Arc.{arc_value};
+ghost use Rattle.std.specs.List.{AllByRecursion};
+ghost use Rattle.kn_code.specs.Code.{IsValid};
+ghost use Rattle.kn_term.specs.declared.node.Node.{Node as NodeOf};
+ghost use Rattle.kn_cond.specs.Conditions.{Condition};
+ghost use Rattle.kn_model.specs.Terms.{terms};
+ghost use Rattle.kn_model.specs.Laws.{IsNet};
+ghost use Rattle.kn_model.specs.Due.{due};
+ghost use Rattle.kn_model.specs.Paths.{begun, mail_in};
+ghost use Rattle.kn_step.specs.Views.{state_of, state_with};
+ghost use Rattle.kn_step.specs.Effects.{mail_of};
+ghost use Rattle.kn_step.specs.Answers.{IsReady, AreRun, AreTooMany, IsPlainEvent, handler_of, OnStop};
+ghost use Rattle.kn_step.specs.Turns.{OnTooMany};
+
+use crate::path::{Done, Path, StepStop, TooMany};
+use crate::run::{RunStop, give, run};
+use crate::spot::{Spot, links_of, program_of};
+use crate::steps::Steps;
+use crate::way::Way;
+use kn_code::Program;
+use kn_node::{Config, Machine, next_event};
+use kn_packet::{Event, Packet};
+use kn_plan::Net;
+use kn_solve::{Judge, Plain};
+use std::alloc::{AllocError, Global};
+use std::sync::Arc;
+use std::sync::ledger::Ledger;
+
+/// Runs the first due event of a node's state on all ways at once, and counts one step. The paths are those of the
+/// definition, in its order, each once, apart from paths whose own condition no inputs meet; each has the least inputs
+/// that meet its own condition, or its mark. TooMany comes only where the event has more than the network's limit of
+/// states of them, and holds as many as were found. Err is also want of memory.
+pub fn run_event<L: Ledger>(
+    net: &Net,
+    c: &Arc<Config, Global>,
+    tick: u32,
+    steps: &mut Steps<L>,
+) -> Result<Done, StepStop>
+    requires ready { IsReady net.now.network tick (arc_value c.now) }
+    requires due { due net.now.network.limits.ticks tick (state_of (arc_value c.now)) ≡ None → ⊥ }
+    ensures config { IfOk result (λ d. arc_value d.config ≡ arc_value c.now) }
+    ensures run { IfOk result (λ d. AreRun net.now.network tick (arc_value c.now) d.event d.paths.items) }
+    ensures many { IfErr result (OnStop (λ t. (arc_value t.config ≡ arc_value c.now) × AreTooMany net.now.network tick (arc_value c.now) t.event t.prefixes.items)) }
+    ensures steps { steps.new ≡ steps.old + 1 }
+{
+    run_event_by(net, &mut Plain, c, tick, steps)
+}
+
+/// The same, where this judge is asked.
+pub fn run_event_by<J: Judge, L: Ledger>(
+    net: &Net,
+    judge: &mut J,
+    c: &Arc<Config, Global>,
+    tick: u32,
+    steps: &mut Steps<L>,
+) -> Result<Done, StepStop>
+    requires ready { IsReady net.now.network tick (arc_value c.now) }
+    requires due { due net.now.network.limits.ticks tick (state_of (arc_value c.now)) ≡ None → ⊥ }
+    ensures config { IfOk result (λ d. arc_value d.config ≡ arc_value c.now) }
+    ensures run { IfOk result (λ d. AreRun net.now.network tick (arc_value c.now) d.event d.paths.items) }
+    ensures many { IfErr result (OnStop (λ t. (arc_value t.config ≡ arc_value c.now) × AreTooMany net.now.network tick (arc_value c.now) t.event t.prefixes.items)) }
+    ensures steps { steps.new ≡ steps.old + 1 }
+{
+    steps.count();
+    let alloc = *net.links.allocator();
+    let Some(event) = next_event(c, tick) else {
+        unreachable!();
+    };
+    let config = Arc::try_clone(c)?;
+    let mut paths = Vec::new(alloc);
+    match run_from(net, judge, c, tick, event, &mut paths) {
+        Ok(()) => Ok(Done {
+            config,
+            event,
+            paths,
+        }),
+        Err(RunStop::TooMany) => Err(StepStop::TooMany(TooMany {
+            config,
+            event,
+            prefixes: paths,
+        })),
+        Err(RunStop::Memory(error)) => Err(StepStop::Memory(error)),
+    }
+}
+
+/// The paths of a due event of a node's state.
+fn run_from<J: Judge>(
+    net: &Net,
+    judge: &mut J,
+    c: &Config,
+    tick: u32,
+    event: Event,
+    out: &mut Vec<Path>,
+) -> Result<(), RunStop>
+    requires ready { IsReady net.now.network tick c.now }
+    requires due { due net.now.network.limits.ticks tick (state_of c.now) ≡ Some event }
+    requires none { length out.old.items ≡ 0 }
+    ensures run { OnOk result (AreRun net.now.network tick c.now event out.new.items) }
+    ensures many { OnTooMany result (AreTooMany net.now.network tick c.now event out.new.items) }
+{
+    // These three are called for their clauses, which the proof cites.
+    net.bounds();
+    comes_later(net);
+    c.machine.sizes();
+    let alloc = *net.links.allocator();
+    let mut config = c.copy()?;
+    let mail = begin(event, tick, &mut config.machine);
+    let spot = Spot {
+        node: c.node,
+        history: c.history,
+        tick,
+        links: links_of(alloc, net, c.node)?,
+        mail,
+    };
+    let mut way = Way::new(alloc, config);
+    let handler = handler_of(event);
+    match program_of(net, c.node).handler(handler) {
+        Some(entry) => {
+            way.jump(entry);
+            run(net, &spot, judge, net.limits.fuel, way, out)
+        }
+        None => give(net, &spot, way, out),
+    }
+}
+
+/// That packets and timers come in later ticks.
+fn comes_later(net: &Net)
+    ensures { IsNet net.now.network }
+{
+    net.bounds();
+    all_valid(&net.programs);
+}
+
+/// That programs are valid, each by its type.
+fn all_valid(programs: &[Program])
+    ensures { AllByRecursion IsValid programs.now }
+{
+    for program in programs {
+        program.validity();
+    }
+}
+
+/// The number of the handler of an event: boot, recv, timer 0 to timer 7.
+fn handler_of(event: Event) -> u8
+    requires { IsPlainEvent event }
+    ensures number { result ≡ handler_of event }
+    ensures low { result < 10 }
+{
+    match event {
+        Event::Boot | Event::Reboot => 0,
+        Event::Packet { .. } => 1,
+        Event::Timer { number } => 2 + number,
+    }
+}
+
+/// What an event does before its handler runs: boot has run, the packet is taken, the timer is unset. The answer is the
+/// event's packet.
+fn begin(event: Event, tick: u32, machine: &mut Machine) -> Option<Packet>
+    requires { IsPlainEvent event }
+    ensures state { (ns : List NodeOf) (trace : List Bool) (own : Condition) → state_with ns machine.new trace own ≡ begun terms tick event (state_with ns machine.old trace own) }
+    ensures mail { (ns : List NodeOf) (trace : List Bool) (own : Condition) → mail_of result ≡ mail_in terms event tick (state_with ns machine.old trace own) }
+    ensures registers { machine.new.registers ≡ machine.old.registers }
+    ensures memory { machine.new.memory ≡ machine.old.memory }
+{
+    match event {
+        Event::Boot | Event::Reboot => {
+            machine.booted = true;
+            None
+        }
+        Event::Packet { .. } => machine.queue.take(tick),
+        Event::Timer { number } => {
+            machine.timers[number as usize] = None;
+            None
+        }
+    }
+}
