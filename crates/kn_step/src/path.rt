@@ -40,8 +40,8 @@ pub struct Done {
     pub paths: Vec<Path>,
 }
 
-/// An event has more paths than the network's limit of states: the state that it was run from, the event, and as many of
-/// its paths as were found, one more than the limit.
+/// An event has more paths than the network's limit of states: the state that it was run from, the event, and those of its
+/// paths that were found, which are more than the limit.
 #[derive(Drop)]
 pub struct TooMany {
     pub config: Arc<Config, Global>,
