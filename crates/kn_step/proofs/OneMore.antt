@@ -39,7 +39,7 @@ implied_alike c l h = record {
     go a true false e f = let t = h a e in absurd cc
     go a false d e f = refl
 
-one_stands : (ns : List Node) (l : Listed) → l.term.index < length ns → StandIn ns (l ∷ [])
+pub one_stands : (ns : List Node) (l : Listed) → l.term.index < length ns → StandIn ns (l ∷ [])
 one_stands ns l h = λ place m e. go place m e
   where
     go : (place : ℕ) (m : Listed) → slice_get (l ∷ []) place ≡ Some m → m.term.index < length ns

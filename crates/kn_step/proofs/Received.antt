@@ -1,6 +1,6 @@
 -- What a node receives: packets in its queue, and their guards in its own condition.
-use Rattle.std.proofs.Common.{◌≡◌, ℕ, zero, suc, ◌+◌, ◌<◌, List, [], ◌∷◌, ◌++◌, length, map, flat_map, take, get_or, Option, Some, None, Ok, Err, refl, sym, ap, subst, ◌∙◌, append_assoc, append-nil, arith}
-use Rattle.std.specs.Prelude.{slice_get, Result, IfOk}
+use Rattle.std.proofs.Common.{◌≡◌, ℕ, zero, suc, ◌+◌, ◌<◌, Bool, true, List, [], ◌∷◌, ◌++◌, length, map, flat_map, take, get_or, Option, Some, None, Ok, Err, refl, sym, ap, subst, ◌∙◌, append_assoc, append-nil, eqb-true, arith}
+use Rattle.std.specs.Prelude.{slice_get, Result, IfOk, ◌==◌}
 use Rattle.std.specs.declared.alloc.AllocError.{AllocError}
 use Rattle.kn_built.proofs.Deciding.{both_true}
 use Rattle.std.proofs.lemmas.List.{take_more}
@@ -29,14 +29,7 @@ use Rattle.kn_model.proofs.Coverage.{put_all_map}
 use Rattle.kn_step.specs.Views.{packet_of, state_of, own_of, received}
 use Rattle.kn_step.specs.Sides.{Implies}
 use Rattle.kn_step.specs.Answers.{guards_of, OnReceived, OnLearned}
-use Rattle.kn_step.proofs.OneMore.{implied_alike}
-
-pub one_stands : (ns : List Node) (l : Listed) → l.term.index < length ns → StandIn ns (l ∷ [])
-one_stands ns l h = λ place m e. go place m e
-  where
-    go : (place : ℕ) (m : Listed) → slice_get (l ∷ []) place ≡ Some m → m.term.index < length ns
-    go zero m e = let same : l ≡ m = cc in subst (λ (x : Listed). x.term.index < length ns) same h
-    go (suc place) m e = absurd cc
+use Rattle.kn_step.proofs.OneMore.{implied_alike, one_stands}
 
 pub one_more_stands : (ns : List Node) (ls : List Listed) (l : Listed) → StandIn ns ls → l.term.index < length ns → StandIn ns (ls ++ l ∷ [])
 one_more_stands ns ls l h i = StandIn-append ns ls (l ∷ []) h (one_stands ns l i)
@@ -206,6 +199,16 @@ receive_learned conflicts c v q new inbox more (Err x) longer good e f alike h =
 receive_learned conflicts c v q new inbox more (Ok o) longer good e f alike h =
     subst (λ (u : ConfigView). OnReceived conflicts u inbox o) e
     (learned conflicts v new inbox more longer good o alike (subst (λ (u : ConfigView). OnLearned conflicts u (condition_of u.terms more) o) f h))
+
+-- no literals more
+nothing_more : (ls : List Listed) → length ls ≡ 0 → ls ≡ []
+nothing_more [] e = refl
+nothing_more (l ∷ ls) e = absurd cc
+
+pub learned_none : (conflicts : ℕ) (c : ConfigView) (more ls : List Listed) (b : Bool) → ls ≡ more → b ≡ (length ls == 0) → b ≡ true → StandsFor conflicts (that (own_of c)) c.standing → OnLearned conflicts c (condition_of c.terms more) (Some c)
+learned_none conflicts c more ls b same is none h =
+    subst (λ (ms : List Listed). OnLearned conflicts c (condition_of c.terms ms) (Some c)) (sym (nothing_more ls (eqb-true (length ls) 0 (sym is ∙ none))) ∙ same)
+    (ap (λ (o : Condition). record (state_of c) { own = o }) (sym (append-nil (own_of c))), h, refl, refl)
 
 -- more literals, with what is known of all
 pub learned_more : (conflicts : ℕ) (c v : ConfigView) (more after : List Listed) (s : Standing) → v ≡ c → after ≡ v.cond ++ more → StandsFor conflicts (that (condition_of v.terms v.cond ++ condition_of v.terms more)) s

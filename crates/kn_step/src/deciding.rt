@@ -19,7 +19,7 @@ use kn_term::{Literal, Node};
 use std::alloc::AllocError;
 
 /// What is known of the two sides of a decision by a literal.
-#[derive(Debug, Drop)]
+#[derive(Drop)]
 pub enum Sides {
     /// What is known so far says that the literal holds.
     First,
@@ -43,9 +43,16 @@ pub fn sides_of<J: Judge>(
     ensures { IfOk result (AreSides budget (known_of way.now) (literal_of way.now.terms literal)) }
 {
     match known_side(way, literal) {
-        Some(true) => Ok(Sides::First),
-        Some(false) => Ok(Sides::Second),
-        None => asked_sides(judge, budget, way, literal),
+        Some(true) => return Ok(Sides::First),
+        Some(false) => return Ok(Sides::Second),
+        None => {}
+    }
+    let Some(first) = asked(judge, budget, way, literal)? else {
+        return Ok(Sides::Second);
+    };
+    match asked(judge, budget, way, negated(literal))? {
+        Some(second) => Ok(Sides::Both(first, second)),
+        None => Ok(Sides::First),
     }
 }
 
@@ -69,14 +76,14 @@ fn known_side(way: &Way, literal: Literal) -> Option<bool>
 }
 
 /// Whether a literal on a word holds.
-fn holds_on(word: u16, truth: bool) -> bool
+pub fn holds_on(word: u16, truth: bool) -> bool
     ensures { result ≡ word_holds (record { value = word; truth = truth }) }
 {
     if word == 0 { !truth } else { truth }
 }
 
 /// Whether a literal is among these.
-fn is_among(literals: &[Literal], literal: Literal) -> bool
+pub fn is_among(literals: &[Literal], literal: Literal) -> bool
     ensures { IsTrue result → Contains literals.now literal }
 {
     literals.contains(&literal)
@@ -90,27 +97,6 @@ pub fn negated(literal: Literal) -> Literal
     Literal {
         term: literal.term,
         truth: !literal.truth,
-    }
-}
-
-/// The sides of a literal, each of which is asked for.
-fn asked_sides<J: Judge>(
-    judge: &mut J,
-    budget: u64,
-    way: &Way,
-    literal: Literal,
-) -> Result<Sides, AllocError>
-    requires stands { literal.term.index < length way.now.terms }
-    requires budget { 1 ≤ budget }
-    requires standing { StandsFor budget (that (known_of way.now)) way.now.standing }
-    ensures { IfOk result (AreSides budget (known_of way.now) (literal_of way.now.terms literal)) }
-{
-    let Some(first) = asked(judge, budget, way, literal)? else {
-        return Ok(Sides::Second);
-    };
-    match asked(judge, budget, way, negated(literal))? {
-        Some(second) => Ok(Sides::Both(first, second)),
-        None => Ok(Sides::First),
     }
 }
 

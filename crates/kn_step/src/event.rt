@@ -126,8 +126,8 @@ fn run_from<J: Judge>(
     }
 }
 
-/// That packets and timers come in later ticks.
-fn comes_later(net: &Net)
+/// That packets and timers of a network come in later ticks, for a caller that needs it in a proof.
+pub fn comes_later(net: &Net)
     ensures { IsNet net.now.network }
 {
     net.bounds();

@@ -14,7 +14,7 @@ mod spot;
 mod steps;
 mod way;
 
-pub use event::{run_event, run_event_by};
+pub use event::{comes_later, run_event, run_event_by};
 pub use laws::over_means;
 pub use path::{Done, LimitAt, LimitKind, Path, StepStop, TooMany};
 pub use receiving::{receive, receive_by};

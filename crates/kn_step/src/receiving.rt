@@ -1,6 +1,6 @@
 //! What a node receives.
 
-ghost use Rattle.std.specs.Prelude.{◌≡◌, ◌<◌, ◌++◌, ◌∷◌, [], length, ℕ, Contains, MatchOption, IfOk, OnOk, IsTrue};
+ghost use Rattle.std.specs.Prelude.{◌≡◌, ◌<◌, ◌≤◌, ◌++◌, ◌∷◌, [], length, ℕ, Contains, MatchOption, IfOk, OnOk, IsTrue};
 ghost use Rattle.kn_built.specs.Built.{Extends};
 ghost use Rattle.kn_cond.specs.Conditions.{Query, that, IsImpossible, StandsFor};
 ghost use Rattle.kn_cond.specs.Meanings.{condition_of, literal_of, StandIn};
@@ -12,6 +12,7 @@ ghost use Rattle.kn_solve.specs.Verdicts.{IsJudged};
 ghost use Rattle.kn_step.specs.Sides.{Implies};
 ghost use Rattle.kn_step.specs.Answers.{OnReceived, OnLearned, guards_of};
 
+use crate::deciding::{holds_on, is_among};
 use kn_cond::{Cond, Standing};
 use kn_node::{Config, Machine};
 use kn_packet::{Packet, Queue};
@@ -41,10 +42,45 @@ pub fn receive_by<J: Judge>(
 {
     net.bounds();
     let alloc = *net.links.allocator();
-    let mut config = c.copy()?;
-    let more = guards(alloc, &mut config.terms, &config.cond, inbox)?;
-    queue_all(&mut config, inbox)?;
-    learn(net, judge, config, more)
+    let config = c.copy()?;
+    receive_own(alloc, judge, net.limits.conflicts, config, inbox)
+}
+
+/// The same of a state that is not needed any more.
+fn receive_own<J: Judge>(
+    alloc: Global,
+    judge: &mut J,
+    budget: u64,
+    c: Config,
+    inbox: &[Packet],
+) -> Result<Option<Config>, AllocError>
+    requires budget { 1 ≤ budget }
+    requires standing { StandsFor budget (that (own_of c)) c.standing }
+    ensures { IfOk result (OnReceived budget c inbox.now) }
+{
+    let Config {
+        node,
+        machine,
+        terms,
+        cond,
+        trace,
+        history,
+        standing,
+    } = c;
+    let mut terms = terms;
+    let mut machine = machine;
+    let more = guards(alloc, &mut terms, &cond, inbox)?;
+    queue_up(&mut machine, inbox)?;
+    let queued = Config {
+        node,
+        machine,
+        terms,
+        cond,
+        trace,
+        history,
+        standing,
+    };
+    learn(alloc, judge, budget, queued, more)
 }
 
 /// The literals of packets' guards that a condition does not say already, over the terms of a list, which grows. Err is
@@ -114,26 +150,12 @@ fn is_said(terms: &Terms, c: &Cond, more: &Cond, literal: Literal) -> bool
     ensures { IsTrue result → Implies (condition_of terms.now c.now ++ condition_of terms.now more.now) (literal_of terms.now literal) }
 {
     if let Node::Konst(word) = terms.node(literal.term) {
-        return (word != 0) == literal.truth;
+        return holds_on(word, literal.truth);
     }
-    is_among(c, literal) || is_among(more, literal)
+    is_among(c.literals(), literal) || is_among(more.literals(), literal)
 }
 
-/// Whether a literal is one of a condition.
-fn is_among(c: &Cond, literal: Literal) -> bool
-    ensures { IsTrue result → Contains c.now literal }
-{
-    c.literals().contains(&literal)
-}
-
-/// Packets come into the queue of a state. Err is want of memory.
-fn queue_all(c: &mut Config, inbox: &[Packet]) -> Result<(), AllocError>
-    ensures { OnOk result (c.new ≡ record c.old { machine = record c.old.machine { queue = put_all packet_le inbox.now c.old.machine.queue } }) }
-{
-    queue_up(&mut c.machine, inbox)
-}
-
-/// The same of a machine. Err is want of memory, and changes no more than the queue.
+/// Packets come into the queue of a machine. Err is want of memory, and changes no more than the queue.
 fn queue_up(machine: &mut Machine, inbox: &[Packet]) -> Result<(), AllocError>
     ensures queue { OnOk result (machine.new.queue ≡ put_all packet_le inbox.now machine.old.queue) }
     ensures others { machine.new ≡ record machine.old { queue = machine.new.queue } }
@@ -156,26 +178,43 @@ fn post_all(queue: &mut Queue, inbox: &[Packet]) -> Result<(), AllocError>
 
 /// A state whose own condition becomes more, with what is known of it; None where no inputs meet it.
 fn learn<J: Judge>(
-    net: &Net,
+    alloc: Global,
     judge: &mut J,
+    budget: u64,
     c: Config,
     more: Cond,
 ) -> Result<Option<Config>, AllocError>
     requires stands { StandIn c.terms more }
-    requires standing { StandsFor net.now.network.limits.conflicts (that (own_of c)) c.standing }
-    ensures { IfOk result (OnLearned net.now.network.limits.conflicts c (condition_of c.terms more)) }
+    requires budget { 1 ≤ budget }
+    requires standing { StandsFor budget (that (own_of c)) c.standing }
+    ensures { IfOk result (OnLearned budget c (condition_of c.terms more)) }
 {
     if more.literals().is_empty() {
         return Ok(Some(c));
     }
-    let mut c = c;
-    let budget = net.limits.conflicts;
-    let alloc = *net.links.allocator();
-    let judged = ask_more(alloc, judge, &c.terms, &c.cond, &c.standing, &more, budget)?;
+    let Config {
+        node,
+        machine,
+        terms,
+        cond,
+        trace,
+        history,
+        standing: known,
+    } = c;
+    let judged = ask_more(alloc, judge, &terms, &cond, &known, &more, budget)?;
     let Some(standing) = judged.standing() else {
         return Ok(None);
     };
-    c.standing = standing;
-    c.cond.join(&more)?;
-    Ok(Some(c))
+    let mut cond = cond;
+    cond.join(&more)?;
+    let learned = Config {
+        node,
+        machine,
+        terms,
+        cond,
+        trace,
+        history,
+        standing,
+    };
+    Ok(Some(learned))
 }

@@ -31,7 +31,7 @@ use std::alloc::AllocError;
 
 /// What an instruction does to a way: it goes on, it stops, or it goes on in two ways, one under a literal and one under
 /// its negation; these are made by `take_side`.
-#[derive(Clone, Copy, Debug, PartialEq, Eq)]
+#[derive(Clone, Copy)]
 pub enum Step {
     Goes,
     Stops,

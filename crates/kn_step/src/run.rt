@@ -30,7 +30,7 @@ use std::alloc::AllocError;
 
 /// A decision both of whose sides go on: the instruction, the literal, and what is known of the inputs that meet all that
 /// is known so far where the literal holds, and where it does not.
-#[derive(Debug, Drop)]
+#[derive(Drop)]
 pub struct Split {
     pub instr: Instr,
     pub literal: Literal,
@@ -39,7 +39,7 @@ pub struct Split {
 }
 
 /// What comes of one instruction of a way.
-#[derive(Debug, Drop)]
+#[derive(Drop)]
 pub enum Turn {
     /// The way goes on.
     Goes,
@@ -50,14 +50,14 @@ pub enum Turn {
 }
 
 /// What comes of a way, with so many instructions left: its end, or a decision with fewer left.
-#[derive(Debug, Drop)]
+#[derive(Drop)]
 pub enum Stretch {
     Ends,
     Splits(Split, u32),
 }
 
 /// Why not all ways were run.
-#[derive(Debug, Drop)]
+#[derive(Drop)]
 pub enum RunStop {
     /// There are more paths than the network's limit of states.
     TooMany,

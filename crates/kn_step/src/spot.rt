@@ -14,7 +14,7 @@ use std::alloc::{AllocError, Global};
 
 /// Where an event runs: the node, the number of its history, the tick, the node's links in the file's order, and the
 /// packet, if it is of a packet.
-#[derive(Debug, Drop)]
+#[derive(Drop)]
 pub struct Spot {
     pub node: u32,
     pub history: usize,

@@ -26,7 +26,7 @@ use std::marker::Model;
 /// A way so far: its machine and the terms that all is over, what is known so far and of the inputs that meet it, how many
 /// literals of that are of before the event, the trace of before the event, the instruction that comes next, the bits and
 /// literals of the event so far, and what it sent.
-#[derive(Debug, Drop)]
+#[derive(Drop)]
 pub struct Way {
     pub machine: Machine,
     pub terms: Terms,

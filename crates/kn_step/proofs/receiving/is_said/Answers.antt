@@ -1,4 +1,7 @@
--- A literal of one condition or of the other.
+-- A literal that always holds, one of one condition, or one of the other.
+use Rattle.std.proofs.Common.{subst, List}
+use Rattle.std.specs.Prelude.{Contains}
+use Rattle.kn_term.specs.declared.node.Literal.{Literal}
 use Rattle.kn_cond.specs.Meanings.{condition_of, literal_of}
 use Rattle.kn_step.proofs.OneMore.{among_implies}
 use Rattle.kn_step.proofs.Received.{front_implies, behind_implies}
@@ -7,9 +10,13 @@ use Rattle.kn_step.proofs.receiving.is_said.Goals as goal
 pub returns-then-is_among : goal.returns-then-is_among
 returns-then-is_among c = λ t.
     let ns = c.args.terms.now in
-    front_implies (condition_of ns c.args.c.now) (condition_of ns c.args.more.now) (literal_of ns c.args.literal) (among_implies ns c.args.c.now c.args.literal (c.is_among.ensures t))
+    let l = c.args.literal in
+    front_implies (condition_of ns c.args.c.now) (condition_of ns c.args.more.now) (literal_of ns l)
+    (among_implies ns c.args.c.now l (subst (λ (ls : List Literal). Contains ls l) c.literals.ensures (c.is_among.ensures t)))
 
 pub returns-else-is_among : goal.returns-else-is_among
 returns-else-is_among c = λ t.
     let ns = c.args.terms.now in
-    behind_implies (condition_of ns c.args.c.now) (condition_of ns c.args.more.now) (literal_of ns c.args.literal) (among_implies ns c.args.more.now c.args.literal (c.is_among-else-is_among.ensures t))
+    let l = c.args.literal in
+    behind_implies (condition_of ns c.args.c.now) (condition_of ns c.args.more.now) (literal_of ns l)
+    (among_implies ns c.args.more.now l (subst (λ (ls : List Literal). Contains ls l) c.literals-else-is_among.ensures (c.is_among-else-is_among.ensures t)))

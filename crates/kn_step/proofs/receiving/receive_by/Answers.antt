@@ -1,21 +1,23 @@
--- What a state learns of packets' guards.
-use Rattle.std.proofs.Common.{◌∙◌}
+-- What a copy of the state learns.
+use Rattle.std.proofs.Common.{◌≤◌, ◌∙◌, sym, subst, ap}
+use Rattle.std.specs.Prelude.{IfOk}
+use Rattle.kn_cond.specs.Conditions.{that, StandsFor}
 use Rattle.kn_node.specs.Views.{ConfigView}
-use Rattle.kn_step.proofs.Received.{config_longer, receive_stands, receive_learned}
+use Rattle.kn_plan.specs.Files.{File}
+use Rattle.kn_step.specs.Views.{own_of}
+use Rattle.kn_step.specs.Answers.{OnReceived}
 use Rattle.kn_step.proofs.receiving.receive_by.Goals as goal
 
-pub invariant_of-config : goal.invariant_of-config
-invariant_of-config g c = config_longer c.config.inside.terms c.guards.new.terms c.config.inside.machine c.config.inside.cond c.in_ok-more.ensures.grows c.config.invariant
+pub receive_own-requires-clause-budget : goal.receive_own-requires-clause-budget
+receive_own-requires-clause-budget g c = subst (λ (f : File). 1 ≤ f.network.limits.conflicts) (sym c.net.view_is) c.bounds.ensures.network.limits.some_conflicts
 
-pub learn-requires-clause-standing : goal.learn-requires-clause-standing
-learn-requires-clause-standing g c =
-    let i = c.config.inside in
-    let v : ConfigView = record { node = i.node; machine = i.machine; terms = i.terms; cond = i.cond; trace = i.trace; history = i.history; standing = i.standing } in
-    receive_stands c.args.net.now.network.limits.conflicts c.args.c.now v c.queue_all.new.c c.guards.new.terms c.args.inbox.now c.in_ok-more.ensures.grows c.config.invariant (c.config.view_is ∙ c.in_ok-config.ensures) c.in_ok-queue_all.ensures c.requires.standing
+pub receive_own-requires-clause-standing : goal.receive_own-requires-clause-standing
+receive_own-requires-clause-standing g c =
+    let q = c.in_ok-config.config in
+    subst (λ (f : File). StandsFor f.network.limits.conflicts (that (own_of q)) q.standing) (sym c.net.view_is)
+    (subst (λ (u : ConfigView). StandsFor c.args.net.now.network.limits.conflicts (that (own_of u)) u.standing) (sym c.in_ok-config.ensures) c.requires.standing)
 
 pub returns : goal.returns
 returns g c =
-    let i = c.config.inside in
-    let v : ConfigView = record { node = i.node; machine = i.machine; terms = i.terms; cond = i.cond; trace = i.trace; history = i.history; standing = i.standing } in
-    receive_learned c.args.net.now.network.limits.conflicts c.args.c.now v c.queue_all.new.c c.guards.new.terms c.args.inbox.now c.in_ok-more.more c.learn.result c.in_ok-more.ensures.grows c.config.invariant (c.config.view_is ∙ c.in_ok-config.ensures) c.in_ok-queue_all.ensures
-    c.in_ok-more.ensures.alike c.learn.ensures
+    subst (λ (u : ConfigView). IfOk c.receive_own.result (OnReceived c.args.net.now.network.limits.conflicts u c.args.inbox.now)) c.in_ok-config.ensures
+    (subst (λ (f : File). IfOk c.receive_own.result (OnReceived f.network.limits.conflicts c.in_ok-config.config c.args.inbox.now)) c.net.view_is c.receive_own.ensures)
