@@ -17,10 +17,10 @@ use Rattle.kn_cnf.specs.Encoding.{IsEncoding, IsExtendable}
 use Rattle.kn_sat.specs.Order.{number, Extends, AreRefuted}
 use Rattle.kn_blast.specs.declared.inputs.InputBits.{InputBits}
 use Rattle.kn_blast.specs.Inputs.{bits_of, IsGivenBy, AreInputBits, IsBefore}
-use Rattle.kn_solve.specs.Orders.{width_of, rank}
+use Rattle.kn_solve.specs.Orders.{width_of, rank, word_at}
 use Rattle.kn_solve.specs.Asking.{RisesBehind, AreRising, width_at, read_of, IsCircuitOf}
 use Rattle.kn_solve.proofs.Ranks.{lower_before, before_lower}
-use Rattle.kn_solve.proofs.Splitting.{words_at, rank_words, are_words, spelled_by, bits_for, entry_words_at, entries_width, word_at, given_word, listed_word, valuation_entries, cut_words, cut_are_words, cut_word_at}
+use Rattle.kn_solve.proofs.Splitting.{words_at, rank_words, are_words, spelled_by, bits_for, entry_words_at, entries_width, given_word, listed_word, valuation_entries, cut_words, cut_are_words, cut_word_at}
 
 behind_entries : (e : InputBits) (es : List InputBits) → AllByRecursion (IsBefore e) es → AllByRecursion (RisesBehind e.node e.index) (map read_of es)
 behind_entries e [] all = tt
@@ -99,7 +99,7 @@ record Tried (rs : List Read) (count : ℕ) : Type 0 where
   distinct : AreDistinct lists
   each : AllByRecursion (λ (ws : List ℕ). AreWords rs ws × (rank rs ws < count)) lists
 
-contained : {A : Type 0} → (P : A → Type 0) (xs : List A) (x : A) → AllByRecursion P xs → Contains xs x → P x
+pub contained : {A : Type 0} → (P : A → Type 0) (xs : List A) (x : A) → AllByRecursion P xs → Contains xs x → P x
 contained P [] x all (i, h, e) = absurd (omega (arith, h))
 contained P (y ∷ ys) x all (zero, h, e) = subst P e all.0
 contained P (y ∷ ys) x all (suc i, h, e) = contained P ys x all.1 (i, omega (arith, h), e)

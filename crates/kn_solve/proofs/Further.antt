@@ -25,3 +25,7 @@ least_with_more alone stays c d a least meets =
 pub asked_of_both : WithoutColumns → (c d : Condition) (empty first both : Asked) → empty ≡ plain [] → first ≡ record empty { condition = empty.condition ++ c } → both ≡ record first { condition = first.condition ++ d } → query_of both ≡ that (c ++ d)
 asked_of_both alone c d empty first both none one two =
     ap query_of (two ∙ ap (λ (f : Asked). record f { condition = f.condition ++ d }) (one ∙ ap (λ (f : Asked). record f { condition = f.condition ++ c }) none)) ∙ alone (c ++ d)
+
+-- a formula of one condition asks what the condition asks
+pub asked_of_one : WithoutColumns → (c : Condition) (empty one : Asked) → empty ≡ plain [] → one ≡ record empty { condition = empty.condition ++ c } → query_of one ≡ that c
+asked_of_one alone c empty one none is = ap query_of (is ∙ ap (λ (f : Asked). record f { condition = f.condition ++ c }) none) ∙ alone c

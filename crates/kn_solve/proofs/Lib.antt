@@ -11,3 +11,8 @@ pub mod Opening
 pub mod Found
 pub mod Staying
 pub mod Further
+pub mod Members
+pub mod Joining
+pub mod Farther
+pub mod Sharing
+pub mod Early

@@ -133,20 +133,29 @@ entries_positive first (e ∷ es) h = (omega (arith, h.0), entries_positive (fir
 pub cut_shorter : (w width whole : ℕ) → width ≤ whole → w % 2 ^ whole % 2 ^ width ≡ w % 2 ^ width
 cut_shorter w width whole h = let parts : whole ≡ (whole - width) + width = omega (arith, h) in ap (λ (n : ℕ). w % 2 ^ n % 2 ^ width) parts ∙ mod-mod-pow w (whole - width) width
 
+-- the inputs that were opened for a term are those that it reads
+pub opened_reads : OneList → (q : Query) (ns : List Node) (r : Ref) (es : List InputBits) → IsOfTerm q (term_at ns r.index) → AreNodes ns → r.index < length ns → AreInputBits 0 es → Covers es (term_at ns r.index)
+    → ((n k : ℕ) → 0 < width_of es n k → RootsRead ns (r ∷ []) n k (width_of es n k)) → q.reads ≡ map read_of es
+opened_reads law q ns r es asked are within order covers read =
+    let t = term_at ns r.index in
+    let of_root : (n k : ℕ) → 0 < width_of es n k → Reads n k (width_of es n k) t = λ n k h.
+    let found = read n k h in one_root (λ (s : Ref). Reads n k (width_of es n k) (term_at ns s.index) → Reads n k (width_of es n k) t) r (λ x. x) found.0 found.1 found.2 found.3 in
+    let widths : (n k : ℕ) → width_at (widest (reads_in t)) n k ≡ greatest (reads_in t) n k = λ n k. rising_width (widest (reads_in t)) n k (widest_rising (reads_in t)) ∙ widest_greatest (reads_in t) n k in
+    asked.reads
+    ∙ same_reads law (widest (reads_in t)) (map read_of es) (widest_rising (reads_in t)) (entries_rising 0 es order) (widest_positive (reads_in t) (term_positive ns r.index are within)) (entries_positive 0 es order) (λ n k.
+    widths n k ∙ (opened_widest es t n k covers (of_root n k) ∙ sym (entries_width_at es n k)))
+
 -- the circuit of a term that is asked not to be 0
 pub circuit_of_term : OneList → WordsByInputs → (q : Query) (ns : List Node) (r : Ref) (es : List InputBits) (old new : List AigNode) (word : List Edge) (e : Edge) → IsOfTerm q (term_at ns r.index) → AreNodes ns → r.index < length ns → AreInputBits 0 es → Covers es (term_at ns r.index)
     → ((n k : ℕ) → 0 < width_of es n k → RootsRead ns (r ∷ []) n k (width_of es n k)) → ((bits : List Bool) (a : Valuation) → IsGivenBy bits es a → number bits old word ≡ ev a (term_at ns r.index))
     → Has new e (λ bits. not (nat_eq (number bits old word) 0)) → IsCircuitOf q es new e
 circuit_of_term law words q ns r es old new word e asked are within order covers read value has =
     let t = term_at ns r.index in
-    let of_root : (n k : ℕ) → 0 < width_of es n k → Reads n k (width_of es n k) t = λ n k h.
-    let found = read n k h in one_root (λ (s : Ref). Reads n k (width_of es n k) (term_at ns s.index) → Reads n k (width_of es n k) t) r (λ x. x) found.0 found.1 found.2 found.3 in
     let widths : (n k : ℕ) → width_at (widest (reads_in t)) n k ≡ greatest (reads_in t) n k = λ n k. rising_width (widest (reads_in t)) n k (widest_rising (reads_in t)) ∙ widest_greatest (reads_in t) n k in
     let all : (n k width : ℕ) → Reads n k width t → width ≤ width_at q.reads n k = λ n k width reads.
     subst (λ (w : ℕ). width ≤ w) (sym (ap (λ (rs : List Read). width_at rs n k) asked.reads ∙ widths n k)) (read_widest t n k width reads) in
     record {
-      reads = asked.reads ∙ same_reads law (widest (reads_in t)) (map read_of es) (widest_rising (reads_in t)) (entries_rising 0 es order) (widest_positive (reads_in t) (term_positive ns r.index are within)) (entries_positive 0 es order) (λ n k.
-          widths n k ∙ (opened_widest es t n k covers (of_root n k) ∙ sym (entries_width_at es n k)));
+      reads = opened_reads law q ns r es asked are within order covers read;
       value = λ bits a given. has.value bits ∙ (ap (λ (w : ℕ). not (nat_eq w 0)) (value bits a given) ∙ sym (asked.meets a));
       depends = λ a b same.
           asked.meets a

@@ -18,7 +18,7 @@ use Rattle.kn_sat.proofs.Numbers.{number-below}
 use Rattle.kn_blast.specs.declared.inputs.InputBits.{InputBits}
 use Rattle.kn_blast.specs.Spelling.{weight}
 use Rattle.kn_blast.specs.Inputs.{bits_of, word_before, given_by, AreInputBits}
-use Rattle.kn_solve.specs.Orders.{width_of, rank}
+use Rattle.kn_solve.specs.Orders.{width_of, rank, word_at}
 use Rattle.kn_solve.specs.Asking.{RisesBehind, AreRising, width_at, read_of}
 use Rattle.kn_solve.proofs.Ranks.{rank-below, one_rank}
 
@@ -102,12 +102,6 @@ pub entries_width : (es : List InputBits) → width_of (map read_of es) ≡ bits
 entries_width [] = refl
 entries_width (e ∷ es) = omega (arith, width_cons (read_of e) (map read_of es), entries_width es)
 
--- the word of an input among words
-abbrev pub word_at : List Read → List ℕ → ℕ → ℕ → ℕ
-word_at [] ws n k = 0
-word_at (r ∷ rs) [] n k = 0
-word_at (r ∷ rs) (w ∷ ws) n k = if nat_eq r.node n && nat_eq r.index k then w else word_at rs ws n k
-
 pub given_word : (bits : List Bool) (es : List InputBits) (n k : ℕ) → listed (given_by bits es) n k ≡ word_at (map read_of es) (entry_words bits es) n k
 given_word bits [] n k = refl
 given_word bits (e ∷ es) n k = ap (λ (rest : ℕ). if nat_eq e.node n && nat_eq e.index k then word_before bits e.lowest e.width else rest) (given_word bits es n k)
@@ -146,23 +140,33 @@ valuation_entries (r ∷ rs) (w ∷ ws) h = go (valuation_entries rs ws h.1) (na
   go more true e = more
   go more false e = (positive_word w e, behind_valuation r.node r.index rs ws h.0, more)
 
--- the words of a valuation, cut to the widths
-abbrev pub cut_words : Valuation → List Read → List ℕ
-cut_words a rs = map (λ (r : Read). listed a r.node r.index % 2 ^ r.width) rs
+-- the words that a table has for the inputs, cut to the widths
+abbrev pub words_by : (ℕ → ℕ → ℕ) → List Read → List ℕ
+words_by f rs = map (λ (r : Read). f r.node r.index % 2 ^ r.width) rs
 
-pub cut_are_words : (a : Valuation) (rs : List Read) → AreWords rs (cut_words a rs)
-cut_are_words a [] = tt
-cut_are_words a (r ∷ rs) = (mod-lt (listed a r.node r.index) (pow_pos r.width), cut_are_words a rs)
+pub words_by_are : (f : ℕ → ℕ → ℕ) (rs : List Read) → AreWords rs (words_by f rs)
+words_by_are f [] = tt
+words_by_are f (r ∷ rs) = (mod-lt (f r.node r.index) (pow_pos r.width), words_by_are f rs)
 
 mod_one : (m : ℕ) → 0 ≡ m % 2 ^ 0
 mod_one m = omega (arith, mod-lt m (pow_pos 0))
 
-pub cut_word_at : (a : Valuation) (rs : List Read) (n k : ℕ) → word_at rs (cut_words a rs) n k ≡ listed a n k % 2 ^ width_at rs n k
-cut_word_at a [] n k = mod_one (listed a n k)
-cut_word_at a (r ∷ rs) n k = go (cut_word_at a rs n k) (nat_eq r.node n && nat_eq r.index k) refl where
-  go : word_at rs (cut_words a rs) n k ≡ listed a n k % 2 ^ width_at rs n k → (b : Bool) → (nat_eq r.node n && nat_eq r.index k) ≡ b
-      → (if b then listed a r.node r.index % 2 ^ r.width else word_at rs (cut_words a rs) n k) ≡ listed a n k % 2 ^ (if b then r.width else width_at rs n k)
+pub word_at_by : (f : ℕ → ℕ → ℕ) (rs : List Read) (n k : ℕ) → word_at rs (words_by f rs) n k ≡ f n k % 2 ^ width_at rs n k
+word_at_by f [] n k = mod_one (f n k)
+word_at_by f (r ∷ rs) n k = go (word_at_by f rs n k) (nat_eq r.node n && nat_eq r.index k) refl where
+  go : word_at rs (words_by f rs) n k ≡ f n k % 2 ^ width_at rs n k → (b : Bool) → (nat_eq r.node n && nat_eq r.index k) ≡ b
+      → (if b then f r.node r.index % 2 ^ r.width else word_at rs (words_by f rs) n k) ≡ f n k % 2 ^ (if b then r.width else width_at rs n k)
   go more true own =
       let s = both_true (nat_eq r.node n) (nat_eq r.index k) own in
-      ap (λ (m : ℕ). listed a m r.index % 2 ^ r.width) (eqb-true r.node n s.0) ∙ ap (λ (j : ℕ). listed a n j % 2 ^ r.width) (eqb-true r.index k s.1)
+      ap (λ (m : ℕ). f m r.index % 2 ^ r.width) (eqb-true r.node n s.0) ∙ ap (λ (j : ℕ). f n j % 2 ^ r.width) (eqb-true r.index k s.1)
   go more false own = more
+
+-- the words of a valuation, cut to the widths
+abbrev pub cut_words : Valuation → List Read → List ℕ
+cut_words a rs = words_by (listed a) rs
+
+pub cut_are_words : (a : Valuation) (rs : List Read) → AreWords rs (cut_words a rs)
+cut_are_words a rs = words_by_are (listed a) rs
+
+pub cut_word_at : (a : Valuation) (rs : List Read) (n k : ℕ) → word_at rs (cut_words a rs) n k ≡ listed a n k % 2 ^ width_at rs n k
+cut_word_at a rs n k = word_at_by (listed a) rs n k

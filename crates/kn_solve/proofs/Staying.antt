@@ -17,11 +17,11 @@ use Rattle.kn_cond.specs.declared.standing.Standing.TheVariants.{Inputs, Open}
 use Rattle.kn_cond.proofs.Kept.{holds-append}
 use Rattle.kn_solve.specs.Formulas.{Asked, query_of}
 use Rattle.kn_solve.specs.Wholes.{whole}
-use Rattle.kn_solve.specs.Orders.{rank}
+use Rattle.kn_solve.specs.Orders.{rank, word_at}
 use Rattle.kn_solve.specs.Asking.{RisesBehind, AreRising, width_at}
 use Rattle.kn_solve.specs.Laws.{WithoutColumns, LeastStays, NeverStays, StandingIsLive, LeastIsOne, with_more}
 use Rattle.kn_solve.proofs.Ranks.{less_first, same_first, more_first, three, lower_before, one_rank}
-use Rattle.kn_solve.proofs.Splitting.{word_at, listed_word, valuation_entries, cut_words, cut_are_words, cut_word_at}
+use Rattle.kn_solve.proofs.Splitting.{words_by, listed_word, valuation_entries, cut_words, cut_are_words, cut_word_at}
 use Rattle.kn_solve.proofs.Widest.{greatest, greatest_append, widest_greatest, widest_rising, rising_width}
 use Rattle.kn_solve.proofs.Wholly.{all_reads, whole_widest}
 use Rattle.kn_solve.proofs.Meeting.{meets_whole}
@@ -29,17 +29,17 @@ use Rattle.kn_solve.proofs.Opening.{read_widest, cut_shorter}
 
 -- ---- words by inputs in order
 
-irreflexive : (n k : ℕ) → precedes n k n k ≡ true → ⊥
+pub irreflexive : (n k : ℕ) → precedes n k n k ≡ true → ⊥
 irreflexive n k h = grind arith
 
 -- an input that comes before another is not that one
-apart : (n k m j : ℕ) → precedes n k m j ≡ true → (nat_eq n m && nat_eq k j) ≡ false
+pub apart : (n k m j : ℕ) → precedes n k m j ≡ true → (nat_eq n m && nat_eq k j) ≡ false
 apart n k m j h = grind arith
 
 apart_after : (n k m j : ℕ) → precedes m j n k ≡ true → (nat_eq n m && nat_eq k j) ≡ false
 apart_after n k m j h = grind arith
 
-itself : (n k : ℕ) → (nat_eq n n && nat_eq k k) ≡ true
+pub itself : (n k : ℕ) → (nat_eq n n && nat_eq k k) ≡ true
 itself n k = rw (eq-eqb n n refl, eq-eqb k k refl) refl
 
 either_same : (v w x y : ℕ) (b : Bool) → v ≡ w → x ≡ y → (if b then v else x) ≡ (if b then w else y)
@@ -47,7 +47,7 @@ either_same v w x y true e s = e
 either_same v w x y false e s = s
 
 -- an input whose word is not 0 is one of those that are read
-behind_word : (n k m j : ℕ) (rs : List Read) (ws : List ℕ) → AllByRecursion (RisesBehind n k) rs → 0 < word_at rs ws m j → precedes n k m j ≡ true
+pub behind_word : (n k m j : ℕ) (rs : List Read) (ws : List ℕ) → AllByRecursion (RisesBehind n k) rs → 0 < word_at rs ws m j → precedes n k m j ≡ true
 behind_word n k m j [] ws all h = absurd (omega (arith, h))
 behind_word n k m j (r ∷ rs) [] all h = absurd (omega (arith, h))
 behind_word n k m j (r ∷ rs) (w ∷ ws) all h = go (behind_word n k m j rs ws all.1) (nat_eq r.node m && nat_eq r.index j) refl h where
@@ -56,19 +56,19 @@ behind_word n k m j (r ∷ rs) (w ∷ ws) all h = go (behind_word n k m j rs ws 
   go more false e p = more p
 
 -- no other has a word
-absent_word : (n k m j : ℕ) (rs : List Read) (ws : List ℕ) → AllByRecursion (RisesBehind n k) rs → (precedes n k m j ≡ true → ⊥) → word_at rs ws m j ≡ 0
+pub absent_word : (n k m j : ℕ) (rs : List Read) (ws : List ℕ) → AllByRecursion (RisesBehind n k) rs → (precedes n k m j ≡ true → ⊥) → word_at rs ws m j ≡ 0
 absent_word n k m j rs ws all not = elim (cases_lt 0 (word_at rs ws m j)) [
   | inl h ↦ absurd (not (behind_word n k m j rs ws all h))
   | inr h ↦ omega (arith, h)
 ]
 
-other_word : (r : Read) (rs : List Read) (w : ℕ) (ws : List ℕ) (m j : ℕ) → (nat_eq r.node m && nat_eq r.index j) ≡ false → word_at (r ∷ rs) (w ∷ ws) m j ≡ word_at rs ws m j
+pub other_word : (r : Read) (rs : List Read) (w : ℕ) (ws : List ℕ) (m j : ℕ) → (nat_eq r.node m && nat_eq r.index j) ≡ false → word_at (r ∷ rs) (w ∷ ws) m j ≡ word_at rs ws m j
 other_word r rs w ws m j e = ap (λ (b : Bool). if b then w else word_at rs ws m j) e
 
-own_word : (r : Read) (rs : List Read) (w : ℕ) (ws : List ℕ) (m j : ℕ) → (nat_eq r.node m && nat_eq r.index j) ≡ true → word_at (r ∷ rs) (w ∷ ws) m j ≡ w
+pub own_word : (r : Read) (rs : List Read) (w : ℕ) (ws : List ℕ) (m j : ℕ) → (nat_eq r.node m && nat_eq r.index j) ≡ true → word_at (r ∷ rs) (w ∷ ws) m j ≡ w
 own_word r rs w ws m j e = ap (λ (b : Bool). if b then w else word_at rs ws m j) e
 
-fits_at : (rs : List Read) (ws : List ℕ) (n k : ℕ) → AreWords rs ws → 0 < word_at rs ws n k → word_at rs ws n k < 2 ^ width_at rs n k
+pub fits_at : (rs : List Read) (ws : List ℕ) (n k : ℕ) → AreWords rs ws → 0 < word_at rs ws n k → word_at rs ws n k < 2 ^ width_at rs n k
 fits_at [] ws n k are h = absurd (omega (arith, h))
 fits_at (r ∷ rs) [] n k are h = absurd are
 fits_at (r ∷ rs) (w ∷ ws) n k are h = go (fits_at rs ws n k are.1) (nat_eq r.node n && nat_eq r.index k) h where
@@ -77,14 +77,14 @@ fits_at (r ∷ rs) (w ∷ ws) n k are h = go (fits_at rs ws n k are.1) (nat_eq r
   go more false p = more p
 
 -- the first input at which words differ
-record Differ (rs : List Read) (vs ws : List ℕ) : Type 0 where
-  node : ℕ
-  index : ℕ
-  lower : word_at rs vs node index < word_at rs ws node index
-  same : (m j : ℕ) → precedes m j node index ≡ true → word_at rs vs m j ≡ word_at rs ws m j
+pub record Differ (rs : List Read) (vs ws : List ℕ) : Type 0 where
+  pub node : ℕ
+  pub index : ℕ
+  pub lower : word_at rs vs node index < word_at rs ws node index
+  pub same : (m j : ℕ) → precedes m j node index ≡ true → word_at rs vs m j ≡ word_at rs ws m j
 
 -- words that come before others are lower at the first input at which they differ
-differ : (rs : List Read) (vs ws : List ℕ) → AreRising rs → AreWords rs vs → AreWords rs ws → ComesBefore vs ws → Differ rs vs ws
+pub differ : (rs : List Read) (vs ws : List ℕ) → AreRising rs → AreWords rs vs → AreWords rs ws → ComesBefore vs ws → Differ rs vs ws
 differ [] [] [] rising p q h = absurd cc
 differ [] [] (w ∷ ws) rising p q h = absurd q
 differ [] (v ∷ vs) ws rising p q h = absurd p
@@ -125,38 +125,38 @@ differ (r ∷ rs) (v ∷ vs) (w ∷ ws) rising p q h = elim (three v w) [
         }
 
 -- an input is one of those that are read
-abbrev is_read : List Read → ℕ → ℕ → Bool
+abbrev pub is_read : List Read → ℕ → ℕ → Bool
 is_read [] m j = false
 is_read (r ∷ rs) m j = if nat_eq r.node m && nat_eq r.index j then true else is_read rs m j
 
-read_behind : (n k m j : ℕ) (rs : List Read) → AllByRecursion (RisesBehind n k) rs → is_read rs m j ≡ true → precedes n k m j ≡ true
+pub read_behind : (n k m j : ℕ) (rs : List Read) → AllByRecursion (RisesBehind n k) rs → is_read rs m j ≡ true → precedes n k m j ≡ true
 read_behind n k m j [] all h = absurd cc
 read_behind n k m j (r ∷ rs) all h = go (read_behind n k m j rs all.1) (nat_eq r.node m && nat_eq r.index j) refl h where
   go : (is_read rs m j ≡ true → precedes n k m j ≡ true) → (b : Bool) → (nat_eq r.node m && nat_eq r.index j) ≡ b → (if b then true else is_read rs m j) ≡ true → precedes n k m j ≡ true
   go more true e p = let s = both_true (nat_eq r.node m) (nat_eq r.index j) e in rw (← eqb-true r.node m s.0, ← eqb-true r.index j s.1) all.0
   go more false e p = more p
 
--- inputs that are lower at the first input at which they differ have words that come before
-comes_before : (b : Valuation) (n k : ℕ) (rs : List Read) (ws : List ℕ) → AreRising rs → AreWords rs ws → listed b n k < word_at rs ws n k
-    → ((m j : ℕ) → is_read rs m j ≡ true → precedes m j n k ≡ true → listed b m j ≡ word_at rs ws m j) → ComesBefore (cut_words b rs) ws
-comes_before b n k [] ws rising are lower same = absurd (omega (arith, lower))
-comes_before b n k (r ∷ rs) [] rising are lower same = absurd are
-comes_before b n k (r ∷ rs) (w ∷ ws) rising are lower same = go (comes_before b n k rs ws rising.1 are.1) (nat_eq r.node n && nat_eq r.index k) refl where
+-- words that are lower at the first input at which they differ come before
+pub before_by : (f : ℕ → ℕ → ℕ) (n k : ℕ) (rs : List Read) (ws : List ℕ) → AreRising rs → AreWords rs ws → f n k < word_at rs ws n k
+    → ((m j : ℕ) → is_read rs m j ≡ true → precedes m j n k ≡ true → f m j ≡ word_at rs ws m j) → ComesBefore (words_by f rs) ws
+before_by f n k [] ws rising are lower same = absurd (omega (arith, lower))
+before_by f n k (r ∷ rs) [] rising are lower same = absurd are
+before_by f n k (r ∷ rs) (w ∷ ws) rising are lower same = go (before_by f n k rs ws rising.1 are.1) (nat_eq r.node n && nat_eq r.index k) refl where
   is : (nat_eq r.node r.node && nat_eq r.index r.index) ≡ true
   is = itself r.node r.index
 
-  go : (listed b n k < word_at rs ws n k → ((m j : ℕ) → is_read rs m j ≡ true → precedes m j n k ≡ true → listed b m j ≡ word_at rs ws m j) → ComesBefore (cut_words b rs) ws)
-      → (own : Bool) → (nat_eq r.node n && nat_eq r.index k) ≡ own → ComesBefore (cut_words b (r ∷ rs)) (w ∷ ws)
+  go : (f n k < word_at rs ws n k → ((m j : ℕ) → is_read rs m j ≡ true → precedes m j n k ≡ true → f m j ≡ word_at rs ws m j) → ComesBefore (words_by f rs) ws)
+      → (own : Bool) → (nat_eq r.node n && nat_eq r.index k) ≡ own → ComesBefore (words_by f (r ∷ rs)) (w ∷ ws)
   go more true e =
       let s = both_true (nat_eq r.node n) (nat_eq r.index k) e in
-      let here : listed b r.node r.index ≡ listed b n k = ap (λ (m : ℕ). listed b m r.index) (eqb-true r.node n s.0) ∙ ap (λ (j : ℕ). listed b n j) (eqb-true r.index k s.1) in
-      less_first (listed b r.node r.index % 2 ^ r.width) w (cut_words b rs) ws (omega (arith, mod-le (listed b r.node r.index) (2 ^ r.width), here, lower, own_word r rs w ws n k e))
+      let here : f r.node r.index ≡ f n k = ap (λ (m : ℕ). f m r.index) (eqb-true r.node n s.0) ∙ ap (λ (j : ℕ). f n j) (eqb-true r.index k s.1) in
+      less_first (f r.node r.index % 2 ^ r.width) w (words_by f rs) ws (omega (arith, mod-le (f r.node r.index) (2 ^ r.width), here, lower, own_word r rs w ws n k e))
   go more false e =
       let rest : word_at (r ∷ rs) (w ∷ ws) n k ≡ word_at rs ws n k = other_word r rs w ws n k e in
       let after : precedes r.node r.index n k ≡ true = behind_word r.node r.index n k rs ws rising.0 (omega (arith, lower, rest)) in
       let read : is_read (r ∷ rs) r.node r.index ≡ true = ap (λ (x : Bool). if x then true else is_read rs r.node r.index) is in
-      let first : listed b r.node r.index ≡ w = same r.node r.index read after ∙ own_word r rs w ws r.node r.index is in
-      same_first (listed b r.node r.index % 2 ^ r.width) w (cut_words b rs) ws (ap (λ (x : ℕ). x % 2 ^ r.width) first ∙ mod-eq_of_lt are.0)
+      let first : f r.node r.index ≡ w = same r.node r.index read after ∙ own_word r rs w ws r.node r.index is in
+      same_first (f r.node r.index % 2 ^ r.width) w (words_by f rs) ws (ap (λ (x : ℕ). x % 2 ^ r.width) first ∙ mod-eq_of_lt are.0)
       ∙ more (omega (arith, lower, rest)) (λ m j one before.
       let own : (nat_eq r.node m && nat_eq r.index j) ≡ false = apart r.node r.index m j (read_behind r.node r.index m j rs rising.0 one) in
       same m j (ap (λ (x : Bool). if x then true else is_read rs m j) own ∙ one) before ∙ other_word r rs w ws m j own)
@@ -168,9 +168,9 @@ abbrev pub Rests : Query → Type 0
 Rests q = (a b : Valuation) → ((n k : ℕ) → listed a n k % 2 ^ width_at q.reads n k ≡ listed b n k % 2 ^ width_at q.reads n k) → q.meets a ≡ q.meets b
 
 -- inputs that meet the second meet the first, and it reads them at least as wide
-record AsksMore (q p : Query) : Type 0 where
-  meets : (a : Valuation) → p.meets a ≡ true → q.meets a ≡ true
-  wider : (n k : ℕ) → width_at q.reads n k ≤ width_at p.reads n k
+pub record AsksMore (q p : Query) : Type 0 where
+  pub meets : (a : Valuation) → p.meets a ≡ true → q.meets a ≡ true
+  pub wider : (n k : ℕ) → width_at q.reads n k ≤ width_at p.reads n k
 
 module _ (law : OneList) (q p : Query) (rising : AreRising q.reads) (wide : AreRising p.reads) (rests : Rests q) (more : AsksMore q p) (a : Valuation) (least : IsLeast q a) (meets : p.meets a ≡ true) where
   abbrev words : List ℕ
@@ -208,7 +208,7 @@ module _ (law : OneList) (q p : Query) (rising : AreRising q.reads) (wide : AreR
             let cut : q.meets (valuation_of q.reads (cut_words b q.reads)) ≡ q.meets b = rests (valuation_of q.reads (cut_words b q.reads)) b (λ n k.
             ap (λ (w : ℕ). w % 2 ^ width_at q.reads n k) (listed_word q.reads (cut_words b q.reads) n k rising ∙ cut_word_at b q.reads n k) ∙ mod-mod (listed b n k) (2 ^ width_at q.reads n k)) in
             least.least (cut_words b q.reads) (cut_are_words b q.reads, cut ∙ more.meets b met.1)
-            (comes_before b d.node d.index q.reads words rising least.meet.0 (omega (arith, d.lower, spelled d.node d.index, kept d.node d.index, given d.node d.index)) (λ m j one earlier.
+            (before_by (listed b) d.node d.index q.reads words rising least.meet.0 (omega (arith, d.lower, spelled d.node d.index, kept d.node d.index, given d.node d.index)) (λ m j one earlier.
             spelled m j ∙ (d.same m j earlier ∙ (kept m j ∙ given m j))));
       }
 

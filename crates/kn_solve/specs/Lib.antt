@@ -5,3 +5,4 @@ pub mod Orders
 pub mod Asking
 pub mod Verdicts
 pub mod Laws
+pub mod Parts

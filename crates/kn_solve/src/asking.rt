@@ -10,6 +10,7 @@ ghost use Rattle.kn_solve.specs.Asking.{IsOfTerm, IsCircuitOf};
 ghost use Rattle.kn_solve.specs.Verdicts.{OnMet, OnNever, OnUndecided, IsVerdict};
 
 use crate::formula::Formula;
+use crate::trying::early;
 use crate::whole::whole;
 use kn_aig::{Aig, Edge};
 use kn_blast::{InputMap, blast, is_not_zero};
@@ -48,6 +49,9 @@ pub fn ask(f: &Formula, budget: u64) -> Result<Verdict, AllocError>
     terms.order();
     let root = whole(&mut terms, &f.condition, &f.columns)?;
     terms.order();
+    if let Some(least) = early(alloc, &terms, root)? {
+        return Ok(Verdict::Met(least));
+    }
     let mut aig = Aig::new(alloc);
     let (inputs, edge) = circuit_of(alloc, &terms, root, &mut aig)?;
     decided(alloc, &aig, edge, &inputs, budget)

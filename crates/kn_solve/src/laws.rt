@@ -1,6 +1,7 @@
 //! Laws on formulas, and on what is known of them.
 
 ghost use Rattle.kn_solve.specs.Laws.{WithoutColumns, LeastStays, NeverStays, StandingIsLive, LeastIsOne};
+ghost use Rattle.kn_solve.specs.Parts.{PartsJoin, PartFar, PartNever};
 
 use kn_term::{one_list, words_by_inputs};
 
@@ -31,4 +32,25 @@ pub fn standing_is_live()
 /// The least inputs that meet a formula are the only ones that are.
 pub fn least_is_one()
     ensures { LeastIsOne }
+{}
+
+/// A condition is split into a part and the rest, which read no input in common. The least inputs of the part, laid over the
+/// least inputs of a condition that has the rest, are the least inputs of all.
+pub fn parts_join()
+    ensures { PartsJoin }
+{
+    one_list();
+    words_by_inputs();
+}
+
+/// Where a part of a condition is far, the condition is.
+pub fn part_far()
+    ensures { PartFar }
+{
+    words_by_inputs();
+}
+
+/// Where no inputs meet a part of a condition, none meet the condition.
+pub fn part_never()
+    ensures { PartNever }
 {}

@@ -1,11 +1,10 @@
--- What was told already, and what the judge says of both conditions.
+-- What was told already, and what was asked.
 use Rattle.std.proofs.Common.{IfOk, IfSome, ◌++◌, subst}
 use Rattle.std.specs.declared.option.Option.{Option}
-use Rattle.kn_cond.specs.Conditions.{Query, that}
+use Rattle.kn_cond.specs.Conditions.{StandsFor, that}
 use Rattle.kn_cond.specs.Meanings.{condition_of}
 use Rattle.kn_solve.specs.declared.judge.Judged.{Judged}
 use Rattle.kn_solve.specs.Verdicts.{IsJudged}
-use Rattle.kn_solve.proofs.Further.{asked_of_both}
 use Rattle.kn_solve.proofs.more.ask_more.Goals as goal
 
 pub returns-in-Some : goal.returns-in-Some
@@ -14,7 +13,5 @@ returns-in-Some g c =
     let asked = that (condition_of ns c.args.c.now ++ condition_of ns c.args.more.now) in
     subst (λ (o : Option Judged). IfSome o (IsJudged c.args.budget asked)) c.in-Some.is (c.in_ok-told.ensures c.args.budget (condition_of ns c.args.c.now) c.requires.known)
 
-pub returns : goal.returns
-returns g c =
-    let ns = c.args.terms.now in
-    subst (λ (q : Query). IfOk c.ask.result (IsJudged c.args.budget q)) (asked_of_both c.without_columns.ensures (condition_of ns c.args.c.now) (condition_of ns c.args.more.now) _ _ _ c.new-f.ensures c.in_ok-add.ensures.ok c.in_ok-add-2.ensures.ok) c.ask.ensures
+pub ask_part-requires-clause-least : goal.ask_part-requires-clause-least
+ask_part-requires-clause-least g c = subst (StandsFor c.args.budget (that (condition_of c.args.terms.now c.args.c.now))) c.in-Inputs.is c.requires.known
