@@ -1,0 +1,24 @@
+-- The lemmas on copying on branch.
+pub mod Edits
+pub mod Looping
+pub mod Mailing
+pub mod Turning
+pub mod Lost
+pub mod Given
+pub mod Ticks
+pub mod Choosing
+pub mod Reaching
+pub mod Sorting
+pub mod Ordered
+pub mod EachNode
+pub mod Bare
+pub mod Sending
+pub mod Paths
+pub mod Closing
+pub mod Opening
+pub mod Numbered
+pub mod Told
+pub mod Joint
+pub mod Failing
+pub mod Reporting
+pub mod Formed
