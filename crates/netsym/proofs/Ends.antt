@@ -8,16 +8,16 @@ use Rattle.kn_io.specs.Reading.{TakesAtMost}
 use Rattle.kn_io.specs.Writing.{TakesFront}
 use Rattle.kn_model.specs.Nets.{Network}
 use Rattle.kn_model.specs.Limits.{Limit, IsOverCopied}
-use Rattle.netsym.specs.declared.status.Status.{Status}
-use Rattle.netsym.specs.declared.status.Status.TheVariants as statuses
-use Rattle.netsym.specs.Texts.{reached_in}
+use Rattle.kn_report.specs.declared.status.Status.{Status}
+use Rattle.kn_report.specs.declared.status.Status.TheVariants as statuses
+use Rattle.kn_report.specs.Texts.{reached_in, open_in}
+use Rattle.kn_report.specs.Statuses.{status_in}
 use Rattle.kn_plan.specs.Files.{File}
 use Rattle.kn_netfile.specs.Faults.{Fault, everywhere}
 use Rattle.kn_netfile.specs.Reading.{file_of}
 use Rattle.netsym.specs.declared.answer.Unanswered.{Unanswered}
 use Rattle.netsym.specs.declared.answer.Unanswered.TheVariants as unanswered
-use Rattle.netsym.specs.Plans.{RunsNow}
-use Rattle.netsym.specs.Refusals.{IsAccepted, IsRefusal, SaysWhy, Tells, not_yet, refusal_line}
+use Rattle.netsym.specs.Refusals.{IsAccepted, IsRefusal, RunsNow, SaysWhy, Tells, not_yet, refusal_line}
 use Rattle.netsym.specs.Runs.{IsCommand, IsRight, IsWritten, IsReportOn, IsTold, IsEither, Reads, Answers, limit, limit_line}
 
 pub written_by : {T E : Type 0} (taken taken' : Option (List ℕ)) (text : List ℕ) (verdict status : Status) (r : Result T E) → status ≡ cond (is_ok r) verdict statuses.WriteFault
@@ -62,17 +62,18 @@ not_yet_why bytes (unanswered.Memory e) file told is never = tt
 
 -- the report on the network of the file
 told_answers : (bytes : List ℕ) (net : Network) (status : Status) (text : List ℕ) → IsAccepted bytes net → IsTold net status text → Answers bytes status text
-told_answers bytes net status text accepted told = subst (λ (s : Status). Answers bytes s text) (sym told.status_is) (go (nat_eq (reached_in told.report) 0) refl)
+told_answers bytes net status text accepted told = subst (λ (s : Status). Answers bytes s text) (sym told.status_is) (go (nat_eq (reached_in told.report) 0) refl (nat_eq (open_in told.report) 0) refl)
   where
     on : IsReportOn bytes text told.report
-    on = record { net = net; accepted = accepted; given = told.given; mapping = told.mapping; within = told.within; decided = told.decided; text_is = told.text_is }
+    on = record { net = net; accepted = accepted; given = told.given; mapping = told.mapping; within = told.within; text_is = told.text_is }
 
     some : (n : ℕ) → nat_eq n 0 ≡ false → 1 ≤ n
     some n e = elim (n) as (λ (m : ℕ). nat_eq m 0 ≡ false → 1 ≤ m) [ zero ↦ λ h. absurd cc | suc m ↦ λ h. omega arith ] e
 
-    go : (b : Bool) → nat_eq (reached_in told.report) 0 ≡ b → Answers bytes (cond b statuses.Clean statuses.Found) text
-    go true e = (told.report, on, eqb-true (reached_in told.report) 0 e)
-    go false e = (told.report, on, some (reached_in told.report) e)
+    go : (b : Bool) → nat_eq (reached_in told.report) 0 ≡ b → (o : Bool) → nat_eq (open_in told.report) 0 ≡ o → Answers bytes (cond b (cond o statuses.Clean statuses.Open) statuses.Found) text
+    go true e true o = (told.report, on, eqb-true (reached_in told.report) 0 e, eqb-true (open_in told.report) 0 o)
+    go true e false o = (told.report, on, eqb-true (reached_in told.report) 0 e, some (open_in told.report) o)
+    go false e decided o = (told.report, on, some (reached_in told.report) e)
 
 -- a limit that is passed, and the line that names it
 pub limited_either : (net : Network) (kind : Limit) (tick : ℕ) (status : Status) (text : List ℕ) → (tick < net.limits.ticks) × IsOverCopied net tick kind → status ≡ statuses.Limit → text ≡ limit_line kind tick → IsEither net status text
@@ -88,6 +89,7 @@ either_answers bytes net status text accepted (inr large) = subst (λ (s : Statu
 pub right_by : (words : List (List ℕ)) (left left' : Option (List ℕ)) (bytes : List ℕ) (status : Status) (text : List ℕ) → IsCommand words → Reads left left' bytes → Answers bytes status text → IsRight words left left' status text
 right_by words left left' bytes statuses.Clean text command reads h = (command, bytes, reads, h)
 right_by words left left' bytes statuses.Found text command reads h = (command, bytes, reads, h)
+right_by words left left' bytes statuses.Open text command reads h = (command, bytes, reads, h)
 right_by words left left' bytes statuses.Refused text command reads h = (command, inr (bytes, reads, h))
 right_by words left left' bytes statuses.Usage text command reads h = absurd h
 right_by words left left' bytes statuses.ReadFault text command reads h = absurd h

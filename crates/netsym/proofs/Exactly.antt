@@ -3,13 +3,12 @@ use Rattle.std.proofs.Common.{◌≡◌, ◌⊎◌, inl, inr, ℕ, ◌+◌, ◌�
 use Rattle.std.specs.Io.KnownBytes.{Consumes, IsAtEnd}
 use Rattle.std.proofs.lemmas.List.{append-nil, length-append}
 use Rattle.kn_model.specs.Nets.{Network}
-use Rattle.netsym.specs.declared.status.Status.{Status}
-use Rattle.netsym.specs.declared.status.Status.TheVariants as statuses
+use Rattle.kn_report.specs.declared.status.Status.{Status}
+use Rattle.kn_report.specs.declared.status.Status.TheVariants as statuses
 use Rattle.kn_plan.specs.Files.{File}
 use Rattle.kn_netfile.specs.Faults.{Fault}
 use Rattle.kn_netfile.specs.Reading.{file_of}
-use Rattle.netsym.specs.Plans.{RunsNow}
-use Rattle.netsym.specs.Refusals.{IsAccepted, IsRefusal}
+use Rattle.netsym.specs.Refusals.{IsAccepted, IsRefusal, RunsNow}
 use Rattle.netsym.specs.Runs.{IsCommand, IsRight, PassesLimit, Reads, Runs, limit}
 use Rattle.netsym.specs.Exact.{EndsAs, IsUsage, IsHindered, IsPrinted, IsDescribed, IsTooLarge, IsExact}
 
@@ -47,6 +46,7 @@ usage_exactly words left left' faults faults' taken taken' status run = record {
     only_usage statuses.Usage text none r = inl refl
     only_usage statuses.Clean text none r = absurd (none r.0)
     only_usage statuses.Found text none r = absurd (none r.0)
+    only_usage statuses.Open text none r = absurd (none r.0)
     only_usage statuses.Refused text none r = absurd (none r.0)
     only_usage statuses.ReadFault text none r = absurd (none r.0)
     only_usage statuses.WriteFault text none r = absurd r
@@ -63,6 +63,7 @@ module _ (words : List (List ℕ)) (left left' : Option (List ℕ)) (faults faul
   verdict_printed : (v : Status) (text : List ℕ) → IsRight words left left' v text → IsPrinted v → IsDescribed bytes
   verdict_printed statuses.Clean text r p = described_by r.1 r.2 r.3.1.net r.3.1.accepted
   verdict_printed statuses.Found text r p = described_by r.1 r.2 r.3.1.net r.3.1.accepted
+  verdict_printed statuses.Open text r p = described_by r.1 r.2 r.3.1.net r.3.1.accepted
   verdict_printed statuses.Usage text r p = absurd p
   verdict_printed statuses.Refused text r p = absurd p
   verdict_printed statuses.ReadFault text r p = absurd p
@@ -98,6 +99,7 @@ module _ (words : List (List ℕ)) (left left' : Option (List ℕ)) (faults faul
   verdict_prints : (v : Status) (text : List ℕ) → IsRight words left left' v text → IsDescribed bytes → IsPrinted v ⊎ ((v ≡ statuses.Limit) ⊎ IsHindered v)
   verdict_prints statuses.Clean text r d = inl tt
   verdict_prints statuses.Found text r d = inl tt
+  verdict_prints statuses.Open text r d = inl tt
   verdict_prints statuses.Usage text r d = absurd (r.0 command)
   verdict_prints statuses.Refused text r d = absurd (verdict_refused text r d)
   verdict_prints statuses.ReadFault text r d = inr (inr tt)
@@ -108,6 +110,7 @@ module _ (words : List (List ℕ)) (left left' : Option (List ℕ)) (faults faul
   verdict_refuses : (v : Status) (text : List ℕ) → IsRight words left left' v text → (IsDescribed bytes → ⊥) → (v ≡ statuses.Refused) ⊎ IsHindered v
   verdict_refuses statuses.Clean text r none = absurd (none (verdict_printed statuses.Clean text r tt))
   verdict_refuses statuses.Found text r none = absurd (none (verdict_printed statuses.Found text r tt))
+  verdict_refuses statuses.Open text r none = absurd (none (verdict_printed statuses.Open text r tt))
   verdict_refuses statuses.Usage text r none = absurd (r.0 command)
   verdict_refuses statuses.Refused text r none = inl refl
   verdict_refuses statuses.ReadFault text r none = inr tt

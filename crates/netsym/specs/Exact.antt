@@ -3,8 +3,8 @@ use Rattle.std.specs.Prelude.{◌≡◌, ◌⊎◌, ◌≤◌, ℕ, List, length
 use Rattle.kn_model.specs.Nets.{Network}
 use Rattle.netsym.specs.Refusals.{IsAccepted}
 use Rattle.netsym.specs.Runs.{IsCommand, PassesLimit, limit}
-use Rattle.netsym.specs.declared.status.Status.{Status}
-use Rattle.netsym.specs.declared.status.Status.TheVariants as statuses
+use Rattle.kn_report.specs.declared.status.Status.{Status}
+use Rattle.kn_report.specs.declared.status.Status.TheVariants as statuses
 
 -- this status, or a write fault in its place
 abbrev pub EndsAs : Status → Status → Type 0
@@ -26,6 +26,7 @@ IsHindered other = ⊥
 abbrev pub IsPrinted : Status → Type 0
 IsPrinted statuses.Clean = Unit {0}
 IsPrinted statuses.Found = Unit {0}
+IsPrinted statuses.Open = Unit {0}
 IsPrinted other = ⊥
 
 -- the bytes describe a network that runs now

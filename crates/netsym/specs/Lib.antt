@@ -1,26 +1,4 @@
-pub mod Plans
-pub mod Shown
-pub mod Views
-pub mod Letters
-pub mod Sending
-pub mod Deciding
-pub mod Events
-pub mod Keeping
-pub mod Holding
-pub mod Writing
-pub mod Running
-pub mod Fronts
-pub mod Limiting
-pub mod Stopping
-pub mod Stepped
-pub mod Valuations
-pub mod ReportViews
-pub mod Plain
-pub mod Listing
-pub mod Looks
-pub mod Ordered
-pub mod Texts
-pub mod Statuses
+-- The definitions of the top call.
 pub mod Refusals
 pub mod Runs
 pub mod Exact

@@ -4,9 +4,13 @@ use Rattle.kn_plan.specs.Nets.{Network}
 use Rattle.kn_plan.specs.Files.{File}
 use Rattle.kn_netfile.specs.Faults.{Fault, everywhere}
 use Rattle.kn_netfile.specs.Reading.{file_of}
-use Rattle.netsym.specs.Plans.{RunsNow}
+use Rattle.kn_cob.specs.Runs.{IsBare}
 use Rattle.netsym.specs.declared.answer.Unanswered.{Unanswered}
 use Rattle.netsym.specs.declared.answer.Unanswered.TheVariants as unanswered
+
+-- It is explored now: its nodes lose and double no packet, and do not reboot.
+abbrev pub RunsNow : Network → Type 0
+RunsNow = IsBare
 
 -- the bytes are a file of this network, which runs now
 pub record IsAccepted (bytes : List ℕ) (net : Network) : Type 0 where

@@ -1,5 +1,5 @@
 -- What a call of the program does.
-use Rattle.std.specs.Prelude.{◌≡◌, ◌⊎◌, ◌≤◌, ◌<◌, ℕ, ◌+◌, List, [], ◌∷◌, ◌++◌, length, map, codes, decimal, nat_eq, if◌then◌else◌}
+use Rattle.std.specs.Prelude.{◌≡◌, ◌⊎◌, ◌≤◌, ◌<◌, ℕ, ◌+◌, List, [], ◌∷◌, ◌++◌, length, map, codes, decimal}
 use Rattle.std.specs.declared.option.Option.{Option}
 use Rattle.std.specs.Io.KnownBytes.{Appends, Consumes, Keeps, IsAtEnd}
 use denote.Ref.{Bor}
@@ -9,11 +9,12 @@ use Rattle.kn_io.specs.Writing.{TakesFront}
 use Rattle.kn_model.specs.Nets.{Network}
 use Rattle.kn_model.specs.Reports.{Report, Cob, Gives}
 use Rattle.kn_model.specs.Limits.{Limit, States, Dstates, IsOverCopied}
-use Rattle.netsym.specs.Texts.{report_text, reached_in, open_in}
+use Rattle.kn_report.specs.Texts.{report_text, reached_in, open_in}
+use Rattle.kn_report.specs.Statuses.{status_in}
 use Rattle.kn_netfile.specs.Reading.{file_of}
 use Rattle.netsym.specs.Refusals.{IsAccepted, IsRefusal}
-use Rattle.netsym.specs.declared.status.Status.{Status}
-use Rattle.netsym.specs.declared.status.Status.TheVariants as statuses
+use Rattle.kn_report.specs.declared.status.Status.{Status}
+use Rattle.kn_report.specs.declared.status.Status.TheVariants as statuses
 
 abbrev pub words_of : List (Bor (List ℕ)) → List (List ℕ)
 words_of words = map (λ (w : Bor (List ℕ)). w.now) words
@@ -33,24 +34,22 @@ pub record Reads (left left' : Option (List ℕ)) (bytes : List ℕ) : Type 0 wh
   pub fits : length bytes ≤ limit
 
 -- The text is that of a report on the network of the file: what copying the whole network at every branch gives. It has no
--- more dstates than the network's limit, and leaves no state and no failure open.
+-- more dstates than the network's limit.
 pub record IsReportOn (bytes : List ℕ) (text : List ℕ) (r : Report) : Type 0 where
   pub net : Network
   pub accepted : IsAccepted bytes net
   pub given : Gives r net
   pub mapping : r.mapping ≡ Cob
   pub within : length r.dstates ≤ net.limits.dstates
-  pub decided : open_in r ≡ 0
   pub text_is : text ≡ report_text r
 
--- the text is that of a report on the network that leaves nothing open, and the status says whether a failure is reached
+-- the text is that of a report on the network, and the status is the report's
 pub record IsTold (net : Network) (status : Status) (text : List ℕ) : Type 0 where
   pub report : Report
   pub given : Gives report net
   pub mapping : report.mapping ≡ Cob
   pub within : length report.dstates ≤ net.limits.dstates
-  pub decided : open_in report ≡ 0
-  pub status_is : status ≡ (if nat_eq (reached_in report) 0 then statuses.Clean else statuses.Found)
+  pub status_is : status ≡ status_in report
   pub text_is : text ≡ report_text report
 
 abbrev pub usage_line : List ℕ
@@ -89,11 +88,12 @@ pub record IsLimited (net : Network) (text : List ℕ) : Type 0 where
 abbrev pub IsEither : Network → Status → List ℕ → Type 0
 IsEither net status text = IsTold net status text ⊎ ((status ≡ statuses.Limit) × IsLimited net text)
 
--- The status and the text that are right for some bytes: no failure is reached, or one is, and in both cases nothing is open,
--- or the bytes are refused, or their network passes a limit.
+-- The status and the text that are right for some bytes: nothing is reached and nothing open, or a failure is reached, or none
+-- is and something is open; or the bytes are refused, or their network passes a limit.
 abbrev pub Answers : List ℕ → Status → List ℕ → Type 0
-Answers bytes statuses.Clean text = (r : Report) × IsReportOn bytes text r × (reached_in r ≡ 0)
+Answers bytes statuses.Clean text = (r : Report) × IsReportOn bytes text r × (reached_in r ≡ 0) × (open_in r ≡ 0)
 Answers bytes statuses.Found text = (r : Report) × IsReportOn bytes text r × (1 ≤ reached_in r)
+Answers bytes statuses.Open text = (r : Report) × IsReportOn bytes text r × (reached_in r ≡ 0) × (1 ≤ open_in r)
 Answers bytes statuses.Refused text = IsRefusal (file_of bytes) text
 Answers bytes statuses.Usage text = ⊥
 Answers bytes statuses.ReadFault text = ⊥
@@ -105,6 +105,7 @@ Answers bytes statuses.Limit text = (net : Network) × IsAccepted bytes net × I
 abbrev pub IsRight : List (List ℕ) → Option (List ℕ) → Option (List ℕ) → Status → List ℕ → Type 0
 IsRight words left left' statuses.Clean text = IsCommand words × (bytes : List ℕ) × Reads left left' bytes × Answers bytes statuses.Clean text
 IsRight words left left' statuses.Found text = IsCommand words × (bytes : List ℕ) × Reads left left' bytes × Answers bytes statuses.Found text
+IsRight words left left' statuses.Open text = IsCommand words × (bytes : List ℕ) × Reads left left' bytes × Answers bytes statuses.Open text
 IsRight words left left' statuses.Usage text = (IsCommand words → ⊥) × Keeps left left' × (text ≡ usage_line)
 IsRight words left left' statuses.Refused text = IsCommand words × (
     (TakesExactly (limit + 1) left left' × (text ≡ too_long_line))

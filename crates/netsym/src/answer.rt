@@ -1,27 +1,23 @@
 //! What the program answers to a network file.
 
-ghost use Rattle.std.specs.Prelude.{◌≡◌, ◌≤◌, ℕ, length, IfOk, IfErr, string_bytes, nat_eq, if◌then◌else◌};
-ghost use Rattle.std.specs.List.{flat_map};
-ghost use Rattle.kn_model.specs.Laws.{IsNet};
+ghost use Rattle.std.specs.Prelude.{◌≡◌, ◌≤◌, ◌<◌, ℕ, length, IfOk, IfErr, string_bytes};
 ghost use Rattle.kn_model.specs.Reports.{Cob, Gives};
-ghost use Rattle.netsym.specs.Plans.{IsBare, HasPlainPrograms};
-ghost use Rattle.netsym.specs.Stopping.{limit_of, IsPassed};
-ghost use Rattle.netsym.specs.Texts.{reached_in, open_in, report_text};
+ghost use Rattle.kn_report.specs.Statuses.{status_in};
+ghost use Rattle.kn_report.specs.Texts.{report_text};
+ghost use Rattle.kn_cob.specs.Runs.{IsBare, AreScenarios};
+ghost use Rattle.kn_cob.specs.Ticks.{limit_of, IsPassed};
 ghost use Rattle.netsym.specs.Refusals.{IsAccepted, SaysWhy, Tells, refusal_line};
-ghost use Rattle.netsym.specs.Runs.{Answers, IsEither, IsTold, limit_line};
+ghost use Rattle.netsym.specs.Runs.{Answers, IsEither, limit_line, limit_name};
 
-use crate::explore::{LimitKind, Stop, explore};
-use crate::plan::node_count;
-use crate::report::Report;
-use crate::report::making::report_from;
-use crate::report::order::sort_by_name;
-use crate::report::text::{reached_count, report_lines};
 use crate::runnable::runs_now;
-use crate::status::Status;
+use kn_cob::{CobRun, Stop, explore_cob, report_of};
 use kn_netfile::{FileFault, read};
 use kn_plan::Net;
+use kn_report::{Report, Status, status_of, text};
+use kn_step::{LimitAt, LimitKind, Steps};
 use std::alloc::{AllocError, Global};
-use std::fmt;
+use std::marker::Brand;
+use std::sync::ledger::{Blank, Ledger};
 use thiserror::Error;
 
 /// The number of the refusal of a file that has no fault, and whose network does not run now.
@@ -38,92 +34,85 @@ pub enum Unanswered {
     Memory(AllocError),
 }
 
-/// The report of a network: what copying it whole at every branch gives at its last tick. It leaves nothing open.
-pub fn report_of_net(alloc: Global, net: &Net) -> Result<Report, Stop>
-    requires sound { IsNet net.now.network }
-    requires plain { HasPlainPrograms net.now.network }
+/// The scenarios of a network at its last tick. The events are counted on a ledger of this call's own.
+fn explored<L: Ledger>(net: &Net, blank: Blank) -> Result<CobRun, Stop>
+    requires name { blank.name ≡ L.name }
+    requires parts { blank.parts ≡ L.parts }
+    requires some { 0 < L.parts }
     requires bare { IsBare net.now.network }
+    ensures scenarios { IfOk result (λ r. AreScenarios net.now.network r) }
+    ensures passed { IfErr result (IsPassed net.now.network) }
+{
+    let mut steps: Steps<L> = Steps::new(blank);
+    explore_cob(net, &mut steps)
+}
+
+/// The report of a network: what copying it whole at every branch gives at its last tick.
+pub fn report_of_net(alloc: Global, net: &Net) -> Result<Report, Stop>
+    requires { IsBare net.now.network }
     ensures given { IfOk result (λ r. Gives r net.now.network) }
     ensures mapping { IfOk result (λ r. r.mapping ≡ Cob) }
     ensures within { IfOk result (λ r. length r.dstates ≤ net.now.network.limits.dstates) }
-    ensures decided { IfOk result (λ r. open_in r ≡ 0) }
     ensures passed { IfErr result (IsPassed net.now.network) }
 {
-    let mut scenarios = explore(alloc, net)?;
-    sort_by_name(node_count(net), &mut scenarios);
-    let report = report_from(alloc, net, &scenarios)?;
+    let run = explored::<Brand>(net, Blank::new(1))?;
+    let report = report_of(alloc, net, &run)?;
     Ok(report)
 }
 
-/// A status, and the lines that go with it.
+/// A status, and the text that goes with it.
 #[derive(Debug, Drop)]
 pub struct Told {
     pub status: Status,
-    pub lines: Vec<String>,
+    pub text: String,
 }
 
-/// Found where a failure is reached, else Clean.
-fn status_of(report: &Report) -> Status
-    ensures { result ≡ (if nat_eq (reached_in report.now) 0 then Status.Clean else Status.Found) }
+/// The name of a limit.
+fn name_of(kind: LimitKind) -> &'static str
+    ensures { result.now ≡ limit_name (limit_of kind) }
 {
-    if reached_count(&report.failures) == 0 {
-        Status::Clean
-    } else {
-        Status::Found
-    }
-}
-
-impl fmt::Display for LimitKind {
-    ghost use Rattle.std.specs.Prelude.{Some};
-    ghost use Rattle.netsym.specs.Stopping.{limit_of};
-    ghost use Rattle.netsym.specs.Runs.{limit_name};
-
-    ghost output = { λ k. Some (limit_name (limit_of k)) };
-
-    fn fmt<W: fmt::Write>(&self, f: &mut fmt::Formatter<W>) -> fmt::Result {
-        match self {
-            LimitKind::States => write!(f, "states"),
-            LimitKind::Dstates => write!(f, "dstates"),
-        }
+    match kind {
+        LimitKind::States => "states",
+        LimitKind::Dstates => "dstates",
     }
 }
 
 /// The answer where a limit was passed in a tick.
-fn limited(alloc: Global, kind: LimitKind, tick: u32) -> Result<Told, AllocError>
-    ensures { IfOk result (λ t. (t.status ≡ Status.Limit) × (flat_map string_bytes t.lines.items ≡ limit_line (limit_of kind) tick)) }
+fn limited(alloc: Global, at: LimitAt) -> Result<Told, AllocError>
+    ensures status { IfOk result (λ t. t.status ≡ Status.Limit) }
+    ensures text { IfOk result (λ t. string_bytes t.text ≡ limit_line (limit_of at.kind) at.tick) }
 {
-    let mut lines = Vec::new(alloc);
-    lines.push(format!(in alloc; "netsym: limit {kind} tick {tick}\n")?)?;
+    let name = name_of(at.kind);
+    let tick = at.tick;
     Ok(Told {
         status: Status::Limit,
-        lines,
+        text: format!(in alloc; "netsym: limit {name} tick {tick}\n")?,
     })
 }
 
 /// The answer where there is a report.
-fn printed(alloc: Global, report: &Report) -> Result<Told, AllocError>
-    ensures { IfOk result (λ t. (t.status ≡ (if nat_eq (reached_in report.now) 0 then Status.Clean else Status.Found)) × (flat_map string_bytes t.lines.items ≡ report_text report.now)) }
+fn printed(report: &Report) -> Result<Told, AllocError>
+    ensures status { IfOk result (λ t. t.status ≡ status_in report.now) }
+    ensures text { IfOk result (λ t. string_bytes t.text ≡ report_text report.now) }
 {
     Ok(Told {
         status: status_of(report),
-        lines: report_lines(alloc, report)?,
+        text: text(report)?,
     })
 }
 
 /// The answer on a network.
 fn reported(alloc: Global, net: &Net) -> Result<Told, AllocError>
-    requires sound { IsNet net.now.network }
-    requires plain { HasPlainPrograms net.now.network }
-    requires bare { IsBare net.now.network }
-    ensures { IfOk result (λ t. IsEither net.now.network t.status (flat_map string_bytes t.lines.items)) }
+    requires { IsBare net.now.network }
+    ensures { IfOk result (λ t. IsEither net.now.network t.status (string_bytes t.text)) }
 {
     match report_of_net(alloc, net) {
         Ok(report) => {
-            let told = printed(alloc, &report)?;
+            let told = printed(&report)?;
             Ok(told)
         }
-        Err(Stop::Limit { kind, tick }) => {
-            let told = limited(alloc, kind, tick)?;
+        Err(Stop::Limit(at)) => {
+            let told = limited(alloc, at)?;
             Ok(told)
         }
         Err(Stop::Memory(error)) => Err(error),
@@ -156,7 +145,6 @@ fn refusal(alloc: Global, number: u8, place: &[u8]) -> Unanswered
 /// - `Memory`: want of memory.
 pub fn accepted(alloc: Global, bytes: &[u8]) -> Result<Net, Unanswered>
     ensures accepted { IfOk result (λ net. IsAccepted bytes.now net.network) }
-    ensures sound { IfOk result (λ net. IsNet net.network) }
     ensures refused { IfErr result (SaysWhy bytes.now) }
 {
     let net = match read(alloc, bytes) {
@@ -172,9 +160,9 @@ pub fn accepted(alloc: Global, bytes: &[u8]) -> Result<Net, Unanswered>
     Ok(net)
 }
 
-/// The status and the lines for the bytes of a network file whose network is explored.
+/// The status and the text for the bytes of a network file whose network is explored.
 pub fn answer(alloc: Global, bytes: &[u8]) -> Result<Told, Unanswered>
-    ensures told { IfOk result (λ t. Answers bytes.now t.status (flat_map string_bytes t.lines.items)) }
+    ensures told { IfOk result (λ t. Answers bytes.now t.status (string_bytes t.text)) }
     ensures refused { IfErr result (SaysWhy bytes.now) }
 {
     let net = accepted(alloc, bytes)?;

@@ -1,7 +1,7 @@
 //! The top call on files at the bounds and past them.
 
-use crate::status::Status;
 use crate::tests::ends;
+use kn_report::Status;
 use std::alloc::{AllocError, Global};
 use std::fmt::Write;
 use std::test::Fail;

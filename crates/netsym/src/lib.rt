@@ -2,17 +2,12 @@
 #![tactic(auto)]
 
 mod answer;
-mod explore;
 mod output;
-mod plan;
-mod report;
 mod runnable;
-mod status;
 mod top;
-mod valuation;
 
-pub use runnable::{is_plain, runs_now};
-pub use status::Status;
+pub use kn_report::Status;
+pub use runnable::runs_now;
 pub use top::{run_alone, words_ok};
 
 #[cfg(test)]

@@ -1,6 +1,6 @@
 //! Worked files, with the status and the text with which a call on each ends.
 
-use crate::status::Status;
+use kn_report::Status;
 
 /// A worked file.
 #[derive(Clone, Copy)]
@@ -20,6 +20,136 @@ const AS_IT_STANDS: (&str, &str) = ("ticks", "ticks");
 
 /// A file without a fault, whose network does not run now.
 const NOT_YET: &str = "netsym: refused F0 -\n";
+
+/// Two branches on two inputs.
+const TWO_INPUTS: &str = "version = 1
+ticks = 1
+[[program]]
+name = \"two\"
+asm = '''
+boot: input r0, 1
+      input r1, 1
+      brz r0, a
+a:    brz r1, b
+b:    ret
+'''
+[[node]]
+program = \"two\"
+";
+
+/// A loop that counts down a constant.
+const COUNT: &str = "version = 1
+ticks = 1
+[[program]]
+name = \"count\"
+asm = '''
+boot: const r0, 10
+      const r1, 1
+loop: brz r0, out
+      sub r0, r0, r1
+      jmp loop
+out:  ret
+'''
+[[node]]
+program = \"count\"
+";
+
+/// A division by 0, and an index out of range.
+const BOUNDS: &str = "version = 1
+ticks = 1
+[[program]]
+name = \"edge\"
+asm = '''
+boot: const r0, 3
+      const r1, 0
+      udiv r2, r0, r1
+      st 0, r2
+      const r3, 65535
+      eq r4, r2, r3
+      assert r4
+      const r5, 4
+      ldx r6, r5, 0, 4
+      ret
+'''
+[[node]]
+program = \"edge\"
+";
+
+/// A node that asserts what a packet's guard implies.
+const IMPOSSIBLE_CHILD: &str = "version = 1
+ticks = 2
+[[program]]
+name = \"small\"
+asm = '''
+boot: input r0, 8
+      const r1, 10
+      ult r2, r0, r1
+      brz r2, a
+      send 0, r0, 1
+a:    ret
+'''
+[[program]]
+name = \"below\"
+asm = '''
+recv: recvw r0, 0
+      const r1, 20
+      ult r2, r0, r1
+      assert r2
+      ret
+'''
+[[node]]
+program = \"small\"
+[[node]]
+program = \"below\"
+[[link]]
+from = 0
+to = 1
+delay = 1
+";
+
+/// A node that counts packets, of which one or two come.
+const NOWHERE: &str = "version = 1
+ticks = 3
+[[program]]
+name = \"again\"
+asm = '''
+boot: input r0, 1
+      send 0, r0, 1
+      brz r0, a
+      send 0, r0, 1
+a:    ret
+'''
+[[program]]
+name = \"once\"
+asm = '''
+boot:   timer 0, 2
+        ret
+recv:   ld r1, 0
+        const r2, 1
+        add r1, r1, r2
+        st 0, r1
+        recvw r3, 0
+        st 1, r3
+        ret
+timer0: ld r1, 0
+        const r2, 1
+        eq r1, r1, r2
+        brz r1, ok
+        ld r3, 1
+        const r5, 0
+        eq r4, r3, r5
+        assert r4
+ok:     ret
+'''
+[[node]]
+program = \"again\"
+[[node]]
+program = \"once\"
+[[link]]
+from = 0
+to = 1
+delay = 1
+";
 
 /// Two nodes that take an input of one bit and branch on it.
 pub const HALVES: &str = "version = 1
@@ -1092,7 +1222,7 @@ const MORE_SCENARIOS_THAN_THE_LIMIT_REPORT: &str = "netsym: limit dstates tick 1
 ";
 
 /// All worked files.
-pub const ROWS: [Row; 50] = [
+pub const ROWS: [Row; 55] = [
     Row {
         name: "halves",
         file: HALVES,
@@ -1391,18 +1521,97 @@ pub const ROWS: [Row; 50] = [
         text: HALVES_REPORT,
     },
     Row {
+        name: "both sides of two branches",
+        file: TWO_INPUTS,
+        change: AS_IT_STANDS,
+        status: Status::Clean,
+        text: "report 1 mapping cob ticks 1 nodes 1
+state 0 node 0 trace 00 outcome running inputs 0.0=1 0.1=1
+state 1 node 0 trace 01 outcome running inputs 0.0=1
+state 2 node 0 trace 10 outcome running inputs 0.1=1
+state 3 node 0 trace 11 outcome running inputs -
+dstate 0 columns 0
+dstate 1 columns 1
+dstate 2 columns 2
+dstate 3 columns 3
+end states 4 dstates 4 reached 0 open 0
+",
+    },
+    Row {
+        name: "impossible sides of a loop are dropped",
+        file: COUNT,
+        change: AS_IT_STANDS,
+        status: Status::Clean,
+        text: "report 1 mapping cob ticks 1 nodes 1
+state 0 node 0 trace 00000000001 outcome running inputs -
+dstate 0 columns 0
+end states 1 dstates 1 reached 0 open 0
+",
+    },
+    Row {
+        name: "an index out of range",
+        file: BOUNDS,
+        change: AS_IT_STANDS,
+        status: Status::Found,
+        text: "report 1 mapping cob ticks 1 nodes 1
+state 0 node 0 trace 01 outcome bounds@8@0 inputs -
+dstate 0 columns 0
+failure 0 reached dstate 0 pick 0 inputs -
+end states 1 dstates 1 reached 1 open 0
+",
+    },
+    Row {
+        name: "a failing child that a guard makes impossible",
+        file: IMPOSSIBLE_CHILD,
+        change: AS_IT_STANDS,
+        status: Status::Clean,
+        text: "report 1 mapping cob ticks 2 nodes 2
+state 0 node 0 trace 0 outcome running inputs -
+state 1 node 1 trace 0 outcome running inputs -
+state 2 node 0 trace 1 outcome running inputs 0.0=10
+state 3 node 1 trace - outcome running inputs -
+dstate 0 columns 0 1
+dstate 1 columns 2 3
+end states 4 dstates 2 reached 0 open 0
+",
+    },
+    Row {
+        name: "a failure that no inputs of the whole scenario meet",
+        file: NOWHERE,
+        change: AS_IT_STANDS,
+        status: Status::Clean,
+        text: "report 1 mapping cob ticks 3 nodes 2
+state 0 node 0 trace 0 outcome running inputs 0.0=1
+state 1 node 1 trace 1 outcome running inputs 0.0=1
+state 2 node 0 trace 1 outcome running inputs -
+state 3 node 1 trace 00 outcome running inputs -
+state 4 node 0 trace 1 outcome running inputs -
+state 5 node 1 trace 01 outcome assert@16@2 inputs 0.0=1
+dstate 0 columns 0 1
+dstate 1 columns 2 3
+dstate 2 columns 4 5
+failure 5 nowhere
+end states 6 dstates 3 reached 0 open 0
+",
+    },
+    Row {
         name: "an input of two bits",
         file: HALVES,
         change: ("0a00000000010000", "0a00000000020000"),
-        status: Status::Refused,
-        text: NOT_YET,
+        status: Status::Clean,
+        text: HALVES_REPORT,
     },
     Row {
-        name: "an operator",
+        name: "an operator in the place of the branch",
         file: HALVES,
         change: ("0900000000020000", "1000000000000000"),
-        status: Status::Refused,
-        text: NOT_YET,
+        status: Status::Clean,
+        text: "report 1 mapping cob ticks 1 nodes 2
+state 0 node 0 trace - outcome running inputs -
+state 1 node 1 trace - outcome running inputs -
+dstate 0 columns 0 1
+end states 2 dstates 1 reached 0 open 0
+",
     },
     Row {
         name: "a packet may be lost",

@@ -1,9 +1,9 @@
 //! The top call on worked files, over a source and a sink in memory.
 
 use crate::rows::{HALF_REPORT, HALVES, HALVES_REPORT, ROWS, Row};
-use crate::status::Status;
 use crate::top::run_alone;
 use kn_io::{MemSink, MemSource};
+use kn_report::Status;
 use std::alloc::Global;
 use std::fmt::Write;
 use std::test::Fail;
@@ -172,10 +172,10 @@ fn branching(alloc: Global, count: u16) -> Result<String, Fail> {
     Ok(code)
 }
 
-/// A file of one tick with one program, and so many nodes that run it.
+/// A file of one tick with one program, and so many nodes that run it, where 64 paths and 64 scenarios are allowed.
 fn alike_nodes(alloc: Global, code: &str, nodes: u32) -> Result<String, Fail> {
     let mut text = format!(in alloc;
-        "version = 1\nticks = 1\n[[program]]\nname = \"p\"\ncode = \"{code}\"\n"
+        "version = 1\nticks = 1\nstates = 64\ndstates = 64\n[[program]]\nname = \"p\"\ncode = \"{code}\"\n"
     )?;
     for _ in 0..nodes {
         text.push_str("[[node]]\nprogram = \"p\"\n")?;
@@ -191,33 +191,33 @@ fn ends_with(alloc: Global, file: &str, end: &str) -> Result<(Status, bool), Fai
     Ok((status, sink.bytes().ends_with(end.as_bytes())))
 }
 
-/// 12 branches in one event are 4,096 paths, as many as are allowed; with one more they are too many. Two nodes with six
-/// branches each have 4,096 scenarios, as many as are allowed; with a third node they are too many.
+/// Six branches in one event are 64 paths, as many as are allowed; with one more they are too many. Two nodes with three
+/// branches each have 64 scenarios, as many as are allowed; with a third node they are too many.
 #[test]
 fn paths_and_scenarios_up_to_the_limits(rt: HostRuntime) -> Result<(), Fail> {
     let alloc = rt.alloc();
-    let six = branching(alloc, 6)?;
+    let three = branching(alloc, 3)?;
     let one = branching(alloc, 1)?;
-    let three = format!(in alloc;
-        "version = 1\nticks = 1\n[[program]]\nname = \"p\"\ncode = \"{six}\"\n[[program]]\nname = \"q\"\ncode = \"{one}\"\n[[node]]\nprogram = \"p\"\n[[node]]\nprogram = \"p\"\n[[node]]\nprogram = \"q\"\n"
+    let over = format!(in alloc;
+        "version = 1\nticks = 1\nstates = 64\ndstates = 64\n[[program]]\nname = \"p\"\ncode = \"{three}\"\n[[program]]\nname = \"q\"\ncode = \"{one}\"\n[[node]]\nprogram = \"p\"\n[[node]]\nprogram = \"p\"\n[[node]]\nprogram = \"q\"\n"
     )?;
     let rows = vec![in alloc;
         (
-            alike_nodes(alloc, &branching(alloc, 12)?, 1)?,
+            alike_nodes(alloc, &branching(alloc, 6)?, 1)?,
             Status::Clean,
-            "\nend states 4096 dstates 4096 reached 0 open 0\n"
+            "\nend states 64 dstates 64 reached 0 open 0\n"
         ),
         (
-            alike_nodes(alloc, &branching(alloc, 13)?, 1)?,
+            alike_nodes(alloc, &branching(alloc, 7)?, 1)?,
             Status::Limit,
             "netsym: limit states tick 0\n"
         ),
         (
-            alike_nodes(alloc, &six, 2)?,
+            alike_nodes(alloc, &three, 2)?,
             Status::Clean,
-            "\nend states 8192 dstates 4096 reached 0 open 0\n"
+            "\nend states 128 dstates 64 reached 0 open 0\n"
         ),
-        (three, Status::Limit, "netsym: limit dstates tick 0\n"),
+        (over, Status::Limit, "netsym: limit dstates tick 0\n"),
     ]?;
     for (file, status, end) in &rows {
         assert!(rt; ends_with(alloc, file, end)? == (*status, true), "{end}");

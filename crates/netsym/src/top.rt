@@ -7,8 +7,8 @@ ghost use Rattle.netsym.specs.Exact.{IsUsage, IsExact};
 
 use crate::answer::{Unanswered, answer};
 use crate::output::write_lines;
-use crate::status::Status;
 use kn_io::{Failed, ReadStop, Sink, Source, read_all, write_all};
+use kn_report::Status;
 use std::alloc::Global;
 
 /// The most bytes of a file.
@@ -64,7 +64,7 @@ fn run_once<S: Source, K: Sink>(
         }
     };
     match answer(alloc, &bytes) {
-        Ok(told) => ended(told.status, write_lines(sink, &told.lines)),
+        Ok(told) => ended(told.status, write_lines(sink, told.text.as_bytes())),
         Err(Unanswered::Refused(line)) => ended(Status::Refused, write_all(sink, &line)),
         Err(Unanswered::Memory(_)) => {
             ended(Status::Memory, write_all(sink, b"netsym: out of memory\n"))

@@ -3,8 +3,8 @@ use Rattle.std.specs.Prelude.{ℕ, ⊤, List}
 use Rattle.kn_plan.specs.Nets.{Network}
 use Rattle.netsym.specs.Refusals.{IsAccepted}
 use Rattle.netsym.specs.Exact.{IsDescribed}
-use Rattle.netsym.specs.declared.status.Status.{Status}
-use Rattle.netsym.specs.declared.status.Status.TheVariants as statuses
+use Rattle.kn_report.specs.declared.status.Status.{Status}
+use Rattle.kn_report.specs.declared.status.Status.TheVariants as statuses
 
 -- netsym accepts the bytes
 abbrev pub IsRun : List ℕ → Type 0

@@ -1,10 +1,8 @@
 //! What an accepted file holds, in sentences.
 
 use crate::shown::counted;
-use kn_code::{Instr, Program, row_of};
-use kn_ops::instruction_table;
+use kn_code::Program;
 use kn_plan::{Link, Name, Net, NodePlan};
-use netsym::is_plain;
 use std::alloc::{AllocError, Global};
 
 /// The handlers' labels, in the order of a program's handlers.
@@ -102,39 +100,8 @@ fn links_text(alloc: Global, net: &Net) -> Result<String, AllocError> {
     Ok(text)
 }
 
-/// The instruction's name.
-fn name_of(instr: Instr) -> &'static str {
-    match instruction_table().by_code(row_of(instr).code) {
-        Some(row) => row.name,
-        None => "",
-    }
-}
-
-/// The instructions of a program that do not run yet.
-fn program_gaps(alloc: Global, name: &str, program: &Program) -> Result<String, AllocError> {
-    let mut text = String::new(alloc);
-    for (index, instr) in program.instrs.iter().enumerate() {
-        if !is_plain(*instr) {
-            let mnemonic = name_of(*instr);
-            text.push_str(&format!(in alloc;
-                "    instruction {index} of program {name}: {mnemonic}\n"
-            )?)?;
-        }
-    }
-    Ok(text)
-}
-
-/// What a network holds that does not run yet: instructions, and lost or doubled packets and reboots.
+/// What a network holds that does not run yet: lost or doubled packets, and reboots.
 pub fn gaps(alloc: Global, net: &Net) -> Result<String, AllocError> {
-    let mut text = String::new(alloc);
-    for (name, program) in net.names.iter().zip(net.programs.iter()) {
-        text.push_str(&program_gaps(alloc, text_of(Some(name)), program)?)?;
-    }
-    text.push_str(&node_gaps(alloc, net)?)?;
-    Ok(text)
-}
-
-fn node_gaps(alloc: Global, net: &Net) -> Result<String, AllocError> {
     let mut text = String::new(alloc);
     for (node, plan) in net.nodes.iter().enumerate() {
         if 0 < plan.loss || 0 < plan.duplicate || !plan.reboot.is_empty() {

@@ -166,7 +166,7 @@ fn refused_files_tell_what_is_wrong_and_where(rt: HostRuntime) -> Result<(), Fai
                 NODE,
                 "loss = 1\n",
             ],
-            "F0 -\nIt is a network file, and some of it does not run yet:\n    instruction 0 of program p: xor\n    lost or doubled packets, or reboots, of node 0\nIt has 1 node, 1 program and 0 links, and runs for 1 tick.\nProgram p: 2 instructions, boot at 0\nNode 0: runs p, may lose 1 packet\n",
+            "F0 -\nIt is a network file, and some of it does not run yet:\n    lost or doubled packets, or reboots, of node 0\nIt has 1 node, 1 program and 0 links, and runs for 1 tick.\nProgram p: 2 instructions, boot at 0\nNode 0: runs p, may lose 1 packet\n",
         ),
     ];
     for (parts, sentences) in rows {

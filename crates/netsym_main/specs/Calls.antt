@@ -2,9 +2,9 @@
 use Rattle.std.specs.Prelude.{◌≡◌, ◌≤◌, ℕ, List, Some}
 use Rattle.std.specs.declared.option.Option.{Option}
 use Rattle.kn_io.specs.Causes.{Rose}
-use Rattle.netsym.specs.declared.status.Status.{Status}
-use Rattle.netsym.specs.declared.status.Status.TheVariants as statuses
-use Rattle.netsym.specs.Statuses.{code_of}
+use Rattle.kn_report.specs.declared.status.Status.{Status}
+use Rattle.kn_report.specs.declared.status.Status.TheVariants as statuses
+use Rattle.kn_report.specs.Statuses.{code_of}
 use Rattle.netsym.specs.Runs.{IsCommand, Runs}
 use Rattle.netsym.specs.Exact.{IsUsage, IsExact}
 

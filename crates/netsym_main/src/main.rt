@@ -5,8 +5,8 @@ ghost use Rattle.std.specs.Prelude.{◌≡◌, ◌⊎◌, IfOk, IfErr, map, drop
 ghost use Rattle.std.specs.IoError.{error_kind};
 ghost use Rattle.std.specs.Vec.Iter.{into_iter_items};
 ghost use Rattle.netsym.specs.Runs.{IsCommand, words_of};
-ghost use Rattle.netsym.specs.Statuses.{code_of};
-ghost use Rattle.netsym.specs.declared.status.Status.TheVariants as statuses;
+ghost use Rattle.kn_report.specs.Statuses.{code_of};
+ghost use Rattle.kn_report.specs.declared.status.Status.TheVariants as statuses;
 ghost use Rattle.netsym_main.specs.Calls.{IsRefusal, IsUntouched, IsCall};
 
 use kn_io::{Sink, Source, StdSink, StdSource};

@@ -1,7 +1,7 @@
 use Rattle.std.specs.List.{AllByRecursion}
 use Rattle.std.proofs.Common.{ℕ, List}
 use Rattle.kn_plan.specs.Nets.{Plan}
-use Rattle.netsym.specs.Plans.{IsBarePlan}
+use Rattle.kn_cob.specs.Runs.{IsBarePlan}
 use Rattle.netsym.proofs.Lefts.{IsLeft}
 use Rattle.netsym.proofs.runnable.are_bare.Given as goal
 

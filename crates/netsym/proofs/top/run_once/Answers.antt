@@ -1,7 +1,6 @@
 use Rattle.std.proofs.Common.{inl, refl}
 use Rattle.std.specs.Prelude.{string_bytes}
-use Rattle.std.specs.List.{flat_map}
-use Rattle.netsym.specs.declared.status.Status.TheVariants as statuses
+use Rattle.kn_report.specs.declared.status.Status.TheVariants as statuses
 use Rattle.netsym.specs.Runs.{usage_line, too_long_line, read_fault_line, memory_line}
 use Rattle.netsym.proofs.Ends.{written_by, keeps_same, not_command, is_command, taken_whole, right_by, answer_is_no_fault}
 use Rattle.netsym.proofs.top.run_once.Goals as goal
@@ -45,13 +44,13 @@ returns-in-Err-Memory-clause-runs g c = record {
 pub returns-in-Ok-answer-clause-runs : goal.returns-in-Ok-answer-clause-runs
 returns-in-Ok-answer-clause-runs g c = record {
   verdict = c.in-Ok-answer.told.status;
-  text = flat_map string_bytes c.in-Ok-answer.told.lines.items;
+  text = string_bytes c.in-Ok-answer.told.text;
   right = right_by _ _ _ c.in-Ok.bytes.items c.in-Ok-answer.told.status _ (is_command c.words_ok.result c.words_ok.ensures c.if-not-words_ok.false)
       (record { all = c.in-Ok.ensures.all; end = c.in-Ok.ensures.end; fits = c.in-Ok.ensures.fits })
       (rw c.deref.ensures.value at c.in-Ok-answer.ensures.told);
   cause = λ is. answer_is_no_fault _ _ _ is (rw c.deref.ensures.value at c.in-Ok-answer.ensures.told);
   written = written_by _ _ _ c.in-Ok-answer.told.status c.ended-in-Ok-answer.result c.write_lines.result c.ended-in-Ok-answer.ensures
-      (rw c.deref-in-Ok-answer.ensures.value at c.write_lines.ensures.all) (rw c.deref-in-Ok-answer.ensures.value at c.write_lines.ensures.front);
+      (rw c.as_bytes.ensures.value at c.write_lines.ensures.all) (rw c.as_bytes.ensures.value at c.write_lines.ensures.front);
 }
 
 pub returns-in-Err-Refused-clause-runs : goal.returns-in-Err-Refused-clause-runs

@@ -1,6 +1,0 @@
-use Rattle.std.proofs.Common.{◌≡◌, drop}
-use Rattle.kn_model.specs.Due.{timer_from}
-use Rattle.netsym.proofs.explore.event.timer_due.Given as goal
-
-abbrev pub invariant-loop-number : goal.invariant-loop-number
-invariant-loop-number l = timer_from l.tick l.number (drop l.number l.timers) ≡ timer_from l.tick 0 l.timers

@@ -1,7 +1,0 @@
-use Rattle.std.proofs.Common.{◌≡◌, ◌++◌, drop}
-use Rattle.std.specs.Prelude.{filter, nat_eq}
-use Rattle.kn_plan.specs.Nets.{Link}
-use Rattle.netsym.proofs.explore.here.links_of.Given as goal
-
-abbrev pub invariant-loop-link : goal.invariant-loop-link
-invariant-loop-link l = l.links.items ++ filter (λ (x : Link). nat_eq x.from l.node) (drop l.link-index l.link-items) ≡ filter (λ (x : Link). nat_eq x.from l.node) l.link-items

@@ -1,5 +1,0 @@
-use Rattle.std.proofs.Common.{◌≡◌, take}
-use Rattle.netsym.proofs.explore.mail.copy_mails.Given as goal
-
-abbrev pub invariant-loop-mail : goal.invariant-loop-mail
-invariant-loop-mail l = l.copies.items ≡ take l.mail-index l.mails
