@@ -1221,8 +1221,8 @@ program = \"seven\"
 const MORE_SCENARIOS_THAN_THE_LIMIT_REPORT: &str = "netsym: limit dstates tick 1
 ";
 
-/// All worked files.
-pub const ROWS: [Row; 55] = [
+/// Worked files that decide on single bits, send packets, set timers and meet limits.
+pub const ROWS: [Row; 42] = [
     Row {
         name: "halves",
         file: HALVES,
@@ -1520,6 +1520,10 @@ pub const ROWS: [Row; 55] = [
         status: Status::Clean,
         text: HALVES_REPORT,
     },
+];
+
+/// Words of more bits than one, bounds, failures that no inputs reach, and what is refused.
+pub const ROWS_OF_WORDS_AND_REFUSALS: [Row; 13] = [
     Row {
         name: "both sides of two branches",
         file: TWO_INPUTS,

@@ -1,6 +1,6 @@
 //! The top call on worked files, over a source and a sink in memory.
 
-use crate::rows::{HALF_REPORT, HALVES, HALVES_REPORT, ROWS, Row};
+use crate::rows::{HALF_REPORT, HALVES, HALVES_REPORT, ROWS, ROWS_OF_WORDS_AND_REFUSALS, Row};
 use crate::top::run_alone;
 use kn_io::{MemSink, MemSource};
 use kn_report::Status;
@@ -56,6 +56,15 @@ fn is_right(alloc: Global, row: &Row) -> Result<bool, Fail> {
 #[test]
 fn worked_files(rt: HostRuntime) -> Result<(), Fail> {
     for row in &ROWS {
+        let right = is_right(rt.alloc(), row)?;
+        assert!(rt; right, "{}", row.name);
+    }
+    Ok(())
+}
+
+#[test]
+fn worked_files_of_words_and_refusals(rt: HostRuntime) -> Result<(), Fail> {
+    for row in &ROWS_OF_WORDS_AND_REFUSALS {
         let right = is_right(rt.alloc(), row)?;
         assert!(rt; right, "{}", row.name);
     }
