@@ -134,23 +134,14 @@ fn one_alternative_of_each_column(rt: HostRuntime) -> Result<(), Fail> {
     Ok(())
 }
 
-/// What an operator makes of two inputs of one bit is not 0.
-fn of_bits(alloc: Global, f: &mut Formula, op: Op, first: u32, second: u32) -> Result<(), Memory> {
+/// The formula that each of so many inputs of one bit is not 0.
+fn of_ones(alloc: Global, count: u32) -> Result<Formula, Memory> {
     let mut terms = Terms::new(alloc);
-    let x = terms.input(0, first, 1)?;
-    let y = terms.input(0, second, 1)?;
-    let made = terms.apply(op, x, y)?;
-    f.add(&terms, &condition(alloc, made, true)?)
-}
-
-/// The formula that 17 inputs of one bit are the same, and that the first or the last one is not 0, so that each is 1. No
-/// literal alone says so of any input.
-fn of_ones(alloc: Global) -> Result<Formula, Memory> {
     let mut f = Formula::new(alloc);
-    for index in 0..16 {
-        of_bits(alloc, &mut f, Op::Eq, index, index + 1)?;
+    for index in 0..count {
+        let x = terms.input(0, index, 1)?;
+        f.add(&terms, &condition(alloc, x, true)?)?;
     }
-    of_bits(alloc, &mut f, Op::Or, 0, 16)?;
     Ok(f)
 }
 
@@ -207,11 +198,8 @@ fn all_ones(v: &Verdict, count: u32) -> bool {
 
 #[test]
 fn a_budget_as_great_as_all_valuations_decides(rt: HostRuntime) -> Result<(), Fail> {
-    let ones = of_ones(rt.alloc())?;
-    assert!(rt; all_ones(&ask(&ones, 131_072)?, 17));
-    // All but one of the 131,072 valuations come before the only one that meets it, so it may be left undecided here.
-    let early = ask(&ones, 65_536)?;
-    assert!(rt; all_ones(&early, 17) || leaves_of(&early) == Some(65_536));
+    let ones = ask(&of_ones(rt.alloc(), 17)?, 131_072)?;
+    assert!(rt; all_ones(&ones, 17));
     let none = of_no_sum(rt.alloc())?;
     assert!(rt; is_never(&ask(&none, 256)?));
     assert_eq!(rt; leaves_of(&ask(&none, 1)?), Some(1));
@@ -230,120 +218,5 @@ fn who_asks_plainly_hears_the_same(rt: HostRuntime) -> Result<(), Fail> {
     assert!(rt; f.condition().1.literals().is_empty());
     is_shared::<Formula>();
     is_shared::<Verdict>();
-    Ok(())
-}
-
-/// That what an operator makes of two inputs of node 0, of 4 bits each, is a word; and the words of the first three inputs
-/// in the least inputs that meet this and that the product of inputs 0 and 1 is 15.
-struct Row {
-    op: Op,
-    inputs: [u32; 2],
-    word: u16,
-    least: [u16; 3],
-}
-
-/// The least inputs of the product alone are 1 and 15: they meet the first row. The third input stands alone.
-const ROWS: [Row; 4] = [
-    Row {
-        op: Op::Add,
-        inputs: [0, 1],
-        word: 16,
-        least: [1, 15, 0],
-    },
-    Row {
-        op: Op::Add,
-        inputs: [0, 1],
-        word: 8,
-        least: [3, 5, 0],
-    },
-    Row {
-        op: Op::Or,
-        inputs: [2, 2],
-        word: 7,
-        least: [1, 15, 7],
-    },
-    Row {
-        op: Op::Add,
-        inputs: [1, 2],
-        word: 6,
-        least: [3, 5, 1],
-    },
-];
-
-/// The condition that what an operator makes of two inputs is a word.
-fn of_two(
-    alloc: Global,
-    terms: &mut Terms,
-    op: Op,
-    inputs: [u32; 2],
-    word: u16,
-) -> Result<Cond, Memory>
-    ensures stands { IfOk result (StandIn terms.new) }
-    ensures grows { Extends terms.old terms.new }
-{
-    let x = terms.input(0, inputs[0], 4)?;
-    let y = terms.input(0, inputs[1], 4)?;
-    let made = terms.apply(op, x, y)?;
-    is_word(alloc, terms, made, word)
-}
-
-/// What is known of a condition with further literals, where the condition was asked before.
-fn asked_before(
-    alloc: Global,
-    terms: &Terms,
-    c: &Cond,
-    more: &Cond,
-    budget: u64,
-) -> Result<Judged, Memory>
-    requires condition { StandIn terms.now c.now }
-    requires further { StandIn terms.now more.now }
-    requires budget { 1 ≤ budget }
-{
-    without_columns();
-    let mut f = Formula::new(alloc);
-    f.add(terms, c)?;
-    let judged = Plain.ask(&f, budget)?;
-    match judged.standing() {
-        Some(known) => ask_more(alloc, &mut Plain, terms, c, &known, more, budget),
-        None => Ok(Judged::Never),
-    }
-}
-
-/// What is known where the product of inputs 0 and 1 is a word, and then a further condition comes, on an operator.
-fn after_product(
-    alloc: Global,
-    product: u16,
-    op: Op,
-    inputs: [u32; 2],
-    word: u16,
-    budget: u64,
-) -> Result<Judged, Memory>
-    requires { 1 ≤ budget }
-{
-    let mut terms = Terms::new(alloc);
-    let c = of_two(alloc, &mut terms, Op::Mul, [0, 1], product)?;
-    let more = of_two(alloc, &mut terms, op, inputs, word)?;
-    asked_before(alloc, &terms, &c, &more, budget)
-}
-
-/// Whether the least inputs were found, and have these words.
-fn is_met(judged: &Judged, least: [u16; 3]) -> bool {
-    match judged {
-        Judged::Met(inputs) => [inputs.get(0, 0), inputs.get(0, 1), inputs.get(0, 2)] == least,
-        _ => false,
-    }
-}
-
-#[test]
-fn further_literals(rt: HostRuntime) -> Result<(), Fail> {
-    for row in ROWS.iter() {
-        let judged = after_product(rt.alloc(), 15, row.op, row.inputs, row.word, 4_096)?;
-        assert!(rt; is_met(&judged, row.least));
-    }
-    let never = after_product(rt.alloc(), 15, Op::Add, [0, 1], 9, 4_096)?;
-    assert!(rt; matches!(never, Judged::Never));
-    // Far for this budget: more than 100 valuations come before 11 and 13.
-    let far = after_product(rt.alloc(), 143, Op::Add, [0, 1], 24, 100)?;
-    assert!(rt; is_met(&far, [11, 13, 0]) || matches!(far, Judged::Undecided { leaves: 100 }));
     Ok(())
 }
