@@ -1,9 +1,10 @@
 -- Words of memory, read and written at an index, place by place.
 use Rattle.std.proofs.Common.{◌≡◌, ℕ, ◌+◌, ◌-◌, ◌<◌, ◌≤◌, List, [], ◌∷◌, ◌++◌, length, take, drop, set, ap, sym, subst, ◌∙◌, arith}
 use Rattle.std.specs.Prelude.{slice_index_or, slice_set}
-use Rattle.std.proofs.lemmas.List.{append-nil, append_assoc, length-take, length-take-le, length-drop, get_or-take, get_or-drop, take-append-drop, drop_more, drop_all, take_more_set, drop-set-lt, drop-take, drop-drop}
+use Rattle.std.proofs.lemmas.List.{append-nil, append_assoc, length-map, length-take, length-take-le, length-drop, get_or-take, get_or-drop, take-append-drop, drop_more, drop_all, take_more_set, drop-set-lt, drop-take, drop-drop}
 use Rattle.kn_word.specs.declared.Op.TheVariants as ops
 use Rattle.kn_term.specs.declared.node.Node.{Node}
+use Rattle.kn_term.specs.declared.node.Ref.{Ref}
 use Rattle.kn_term.specs.Nodes.{term_at}
 use Rattle.kn_term.specs.Terms.{Term, Word, Apply, Choice}
 use Rattle.kn_model.specs.Terms.{terms}
@@ -15,6 +16,11 @@ use Rattle.kn_model.proofs.AlikeTerms.{keeps_terms, term_self, term_through}
 use Rattle.kn_step.specs.Ways.{WayView, way_of, IsStill, IsGrown, AlikeWay}
 use Rattle.kn_step.proofs.Onward.{way_self}
 use Rattle.kn_step.proofs.Stepping.{equal_alike, way_through, grown_through, kept_at}
+
+-- there are 64 words of memory
+pub words_fit : (w v : WayView) (m n : ℕ) → w ≡ v → length w.machine.memory ≡ 64 → m + n ≤ 64 → m + n ≤ length (way_of v).state.memory
+words_fit w v m n same sized within =
+    subst (λ (x : WayView). m + n ≤ length (way_of x).state.memory) same (omega (arith, length-map w.machine.memory (λ (r : Ref). term_at w.terms r.index), sized, within))
 
 -- so many words are there
 length_span : (ms : List Term) (m n : ℕ) → m + n ≤ length ms → length (span terms ms m n) ≡ n

@@ -1,13 +1,11 @@
 -- Given paths, put together as ways are run.
 use Rattle.std.proofs.Common.{◌≡◌, ℕ, List, [], ◌∷◌, ◌++◌, map, refl, sym, ap, subst, append_assoc, append-nil, inl, inr}
-use Rattle.std.specs.List.{AllByRecursion}
 use Rattle.std.proofs.lemmas.List.{map-append}
 use Rattle.kn_term.specs.Terms.{Term}
 use Rattle.kn_cond.specs.Conditions.{Condition, that, IsImpossible, StandsFor}
 use Rattle.kn_cond.specs.declared.standing.Standing.{Standing}
-use Rattle.kn_packet.specs.Packets.{PacketView}
 use Rattle.kn_model.specs.Terms.{terms}
-use Rattle.kn_model.specs.Rows.{Here, Way}
+use Rattle.kn_model.specs.Rows.{Way}
 use Rattle.kn_model.specs.Paths.{Path, path_of}
 use Rattle.kn_model.specs.Alikes.{AlikePath, AreGiven}
 use Rattle.kn_model.proofs.Lists.{all-append}

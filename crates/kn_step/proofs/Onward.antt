@@ -11,7 +11,7 @@ use Rattle.kn_model.specs.Nodes.{Fuel, is_running}
 use Rattle.kn_model.specs.Nets.{Network}
 use Rattle.kn_model.specs.Rows.{Here, Way, Effect, Goes, Stops, Decides, effect, failed}
 use Rattle.kn_model.specs.Paths.{Path, ways, path_of, decided, after, effect_of, effect_at, goes_by, one_way}
-use Rattle.kn_model.specs.Alikes.{OneByOne, TermAlike, ConditionAlike, AlikePath, AlikeSend, AreGiven}
+use Rattle.kn_model.specs.Alikes.{OneByOne, TermAlike, ConditionAlike, AlikePath, AlikeSend}
 use Rattle.kn_model.proofs.OneByOne.{pairs-self, pairs-map, pairs-append}
 use Rattle.kn_model.proofs.AlikeRows.{MailAlike, ways_alike, path_alike, decides}
 use Rattle.kn_model.proofs.AlikeTerms.{keeps_terms, alike_self, condition_self, send_self, waits_self, given_on}

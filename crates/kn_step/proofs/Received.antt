@@ -1,6 +1,6 @@
 -- What a node receives: packets in its queue, and their guards in its own condition.
-use Rattle.std.proofs.Common.{◌≡◌, ℕ, zero, suc, ◌+◌, ◌<◌, Bool, true, List, [], ◌∷◌, ◌++◌, length, map, flat_map, take, get_or, Option, Some, None, Ok, Err, refl, sym, ap, subst, ◌∙◌, append_assoc, append-nil, eqb-true, arith}
-use Rattle.std.specs.Prelude.{slice_get, Result, IfOk, ◌==◌}
+use Rattle.std.proofs.Common.{◌≡◌, ℕ, suc, ◌+◌, ◌<◌, Bool, true, List, [], ◌∷◌, ◌++◌, length, map, flat_map, take, get_or, Option, Some, None, Ok, Err, refl, sym, ap, subst, ◌∙◌, append_assoc, append-nil, eqb-true, arith}
+use Rattle.std.specs.Prelude.{Result, IfOk, ◌==◌}
 use Rattle.std.specs.declared.alloc.AllocError.{AllocError}
 use Rattle.kn_built.proofs.Deciding.{both_true}
 use Rattle.std.proofs.lemmas.List.{take_more}

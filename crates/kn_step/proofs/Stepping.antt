@@ -1,5 +1,5 @@
 -- What the parts of a row do, one after another, and what a row is of them.
-use Rattle.std.proofs.Common.{◌≡◌, ℕ, ◌<◌, ◌≤◌, take, drop, Bool, true, false, List, [], ◌∷◌, refl, Result, Ok, Err, ap, sym, subst, ◌∙◌, eq-eqb, ne_eqb, arith}
+use Rattle.std.proofs.Common.{◌≡◌, ℕ, ◌<◌, ◌≤◌, take, drop, Bool, true, false, List, [], ◌∷◌, refl, Result, Ok, Err, ap, sym, subst, ◌∙◌, eq-eqb, arith}
 use Rattle.std.specs.Prelude.{length, if◌then◌else◌, IfOk}
 use Rattle.std.specs.List.{AllByRecursion}
 use Rattle.kn_built.specs.Built.{Extends}
@@ -9,7 +9,7 @@ use Rattle.kn_code.specs.declared.program.Instr.{Instr}
 use Rattle.kn_code.specs.declared.program.Instr.TheVariants as instrs
 use Rattle.kn_term.specs.declared.node.Node.{Node}
 use Rattle.kn_term.specs.declared.node.Literal.{Literal as Listed}
-use Rattle.kn_term.specs.Terms.{Term, Input, Apply}
+use Rattle.kn_term.specs.Terms.{Term, Apply}
 use Rattle.kn_term.specs.Nodes.{term_at}
 use Rattle.kn_term.proofs.Kept.{term_at-extends, nodes-extends}
 use Rattle.kn_model.specs.Terms.{terms}
@@ -174,24 +174,13 @@ range_step net spot i b n v w steps.Goes decides is h grown = absurd h
 range_step net spot i b n v w steps.Stops decides is h grown = absurd h
 range_step net spot i b n v w (steps.Decides l) decides is h grown = decide_step net spot i v w l (in_range terms (way_of v) b n) decides is grown h.0 h.1 h.2
 
--- an input is made, or none is left
+-- no input is left
 pub input_full : (net : Network) (spot : Spot) (a width : ℕ) (v w : WayView) → v.machine.inputs ≡ 65535 → way_of w ≡ with_outcome terms (way_of v) (Failed Fuel v.pc spot.tick) → IsStill v w → IsStep net spot (instrs.Input a width) v w steps.Stops
 input_full net spot a width v w full e still =
     let here = here_of net spot in
     stop_step net spot (instrs.Input a width) v w still
     (ap (λ (b : Bool). if b then Stops (failed terms here Fuel (way_of v)) else Goes (next terms (counted terms (with_register terms (way_of v) a (fresh_input terms here (way_of v) width))))) (eq-eqb v.machine.inputs 65535 full)
     ∙ ap (λ (y : Way Term). Stops y) (sym e))
-
-pub input_step : (net : Network) (spot : Spot) (a width : ℕ) (v u m w : WayView) (s : Step) (place : ℕ) → (v.machine.inputs ≡ 65535 → ⊥) → IsGrown v u → TermAlike (term_at u.terms place) (Input spot.node v.machine.inputs width)
-    → way_of m ≡ counted terms (way_of u) → IsStill u m → IsSet m w a (term_at m.terms place) → IsStill m w → s ≡ steps.Goes → IsStep net spot (instrs.Input a width) v w s
-input_step net spot a width v u m w s place some grown alike e still goes more is =
-    let here = here_of net spot in
-    let x = Input spot.node v.machine.inputs width in
-    let made : AlikeEffect (Goes (way_of w)) (sets terms (way_of m) a x) = goes x (subst (λ (ns : List Node). TermAlike (term_at ns place) x) (sym still.terms) alike) in
-    let there : AlikeEffect (Goes (way_of w)) (sets terms (counted terms (way_of v)) a x) = subst (λ (z : Way Term). AlikeEffect (Goes (way_of w)) (sets terms z a x)) (e ∙ ap (counted terms) grown.way) made in
-    goes_step net spot (instrs.Input a width) v w s is (changed_of v u w grown (still_through u m w still more))
-    (subst (λ (b : Bool). AlikeEffect (Goes (way_of w)) (if b then Stops (failed terms here Fuel (way_of v)) else Goes (next terms (counted terms (with_register terms (way_of v) a (fresh_input terms here (way_of v) width))))))
-    (sym (ne_eqb v.machine.inputs 65535 some)) there)
 
 -- sends do not decide
 no_decision : (b : Bool) (x y : Way Term) (l : Literal Term) (w u : Way Term) → AlikeEffect (Decides l w u) (if b then Stops x else Goes y) → ⊥

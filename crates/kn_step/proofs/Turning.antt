@@ -16,15 +16,14 @@ use Rattle.kn_cond.specs.Conditions.{Condition, holds, that, IsImpossible, Stand
 use Rattle.kn_cond.specs.Meanings.{literal_of}
 use Rattle.kn_model.specs.Values.{Literal, negated}
 use Rattle.kn_model.specs.Terms.{terms}
-use Rattle.kn_model.specs.Packets.{Packet}
 use Rattle.kn_model.specs.Nodes.{Fuel, is_running}
 use Rattle.kn_model.specs.Nets.{Network, Link, plan_of, code_of}
 use Rattle.kn_code.specs.Code.{Code, no_code}
 use Rattle.kn_model.specs.Laws.{SetsLater}
 use Rattle.kn_model.proofs.Lists.{all-filter, all-get_or}
-use Rattle.kn_model.specs.Rows.{Here, Way, Effect, Goes, Stops, Decides, effect, failed}
-use Rattle.kn_model.specs.Paths.{Path, ways, path_of, decided, goes_by, one_way}
-use Rattle.kn_model.specs.Alikes.{TermAlike, ConditionAlike, AlikePath, AreGiven, OneByOne}
+use Rattle.kn_model.specs.Rows.{Here, Way, Goes, Stops, Decides, effect, failed}
+use Rattle.kn_model.specs.Paths.{Path, path_of, decided, goes_by, one_way}
+use Rattle.kn_model.specs.Alikes.{ConditionAlike, AlikePath, AreGiven, OneByOne}
 use Rattle.kn_model.proofs.OneByOne.{pairs-self, pairs-append}
 use Rattle.kn_model.proofs.AlikeTerms.{holds_join, alike_self, condition_self, term_self, send_self}
 use Rattle.kn_model.proofs.AlikeGiven.{IsShut, given_append, shut_ways}
@@ -40,7 +39,7 @@ use Rattle.kn_step.specs.declared.rows.Step.TheVariants as steps
 use Rattle.kn_step.specs.declared.run.Turn.{Turn}
 use Rattle.kn_step.specs.declared.run.Turn.TheVariants as turns
 use Rattle.kn_step.specs.declared.spot.Spot.{Spot}
-use Rattle.kn_step.proofs.Onward.{opened, past, ended, effect_paths, goes_leads, stops_leads, decides_leads, sides_on, leads_alike, leads_through, onward_alike, path_on, way_self}
+use Rattle.kn_step.proofs.Onward.{opened, past, ended, effect_paths, goes_leads, stops_leads, decides_leads, sides_on, leads_alike, leads_through, onward_alike}
 
 module _ (net : Network) (spot : Spot) where
   abbrev here : Here Term

@@ -1,6 +1,6 @@
 //! What is known of the two sides of a decision.
 
-ghost use Rattle.std.specs.Prelude.{◌≡◌, ◌<◌, ◌≤◌, ◌++◌, ◌∷◌, [], ℕ, List, Contains, IfOk, IfSome, IsTrue, IsFalse, OnOk, None, MatchOption, length};
+ghost use Rattle.std.specs.Prelude.{◌≡◌, ◌<◌, ◌≤◌, ◌++◌, ◌∷◌, [], ℕ, List, IfOk, IfSome, IsTrue, IsFalse, OnOk, None, MatchOption, length};
 ghost use Rattle.kn_term.specs.declared.node.Node.{Node as NodeOf};
 ghost use Rattle.kn_cond.specs.Conditions.{that, StandsFor, IsImpossible};
 ghost use Rattle.kn_cond.specs.Meanings.{literal_of};
@@ -66,10 +66,10 @@ fn known_side(way: &Way, literal: Literal) -> Option<bool>
         return Some(holds_on(word, literal.truth));
     }
     let known = way.cond.literals();
-    if is_among(known, literal) {
+    if known.contains(&literal) {
         return Some(true);
     }
-    if is_among(known, negated(literal)) {
+    if known.contains(&negated(literal)) {
         return Some(false);
     }
     None
@@ -80,13 +80,6 @@ pub fn holds_on(word: u16, truth: bool) -> bool
     ensures { result ≡ word_holds (record { value = word; truth = truth }) }
 {
     if word == 0 { !truth } else { truth }
-}
-
-/// Whether a literal is among these.
-pub fn is_among(literals: &[Literal], literal: Literal) -> bool
-    ensures { IsTrue result → Contains literals.now literal }
-{
-    literals.contains(&literal)
 }
 
 /// The other answer.

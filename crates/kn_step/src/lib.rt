@@ -20,3 +20,7 @@ pub use path::{Done, LimitAt, LimitKind, Path, StepStop, TooMany};
 pub use receiving::{receive, receive_by};
 pub use std::alloc::AllocError as Memory;
 pub use steps::Steps;
+pub use way::copy_packets;
+
+#[cfg(test)]
+mod tests;

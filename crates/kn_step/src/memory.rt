@@ -36,7 +36,7 @@ fn element(way: &mut Way, index: Ref, m: u16, place: u16, n: u16) -> Result<Ref,
     ensures stands { IfOk result (λ r. r.index < length way.new.terms) }
     ensures grown { IfOk result (λ r. IsGrown way.old way.new) }
 {
-    words(way);
+    way.machine.sizes();
     if place == n {
         return way.konst(0);
     }
@@ -80,7 +80,7 @@ fn put(way: &mut Way, index: Ref, value: Ref, m: u16, place: u16, n: u16) -> Res
     ensures way { OnOk result (AlikeWay (way_of way.new) (with_memory terms (way_of way.old) (take (m + place) (way_of way.old).state.memory ++ with_element terms (term_at way.old.terms index.index) (term_at way.old.terms value.index) place (drop place (span terms (way_of way.old).state.memory m n)) ++ drop (m + n) (way_of way.old).state.memory))) }
     ensures changed { OnOk result (IsChanged way.old way.new) }
 {
-    words(way);
+    way.machine.sizes();
     if place == n {
         return Ok(());
     }
@@ -89,11 +89,4 @@ fn put(way: &mut Way, index: Ref, value: Ref, m: u16, place: u16, n: u16) -> Res
     let chosen = way.choose(same, value, word)?;
     way.set_word(m as usize + place as usize, chosen);
     put(way, index, value, m, place + 1, n)
-}
-
-/// That there are 64 words of memory, for a caller that needs it in a proof.
-fn words(way: &Way)
-    ensures { length (way_of way.now).state.memory ≡ 64 }
-{
-    way.machine.sizes();
 }

@@ -1,6 +1,6 @@
 //! What a node receives.
 
-ghost use Rattle.std.specs.Prelude.{◌≡◌, ◌<◌, ◌≤◌, ◌++◌, ◌∷◌, [], length, ℕ, Contains, MatchOption, IfOk, OnOk, IsTrue};
+ghost use Rattle.std.specs.Prelude.{◌≡◌, ◌<◌, ◌≤◌, ◌++◌, ◌∷◌, [], length, ℕ, MatchOption, IfOk, OnOk, IsTrue};
 ghost use Rattle.kn_built.specs.Built.{Extends};
 ghost use Rattle.kn_cond.specs.Conditions.{Query, that, IsImpossible, StandsFor};
 ghost use Rattle.kn_cond.specs.Meanings.{condition_of, literal_of, StandIn};
@@ -12,7 +12,7 @@ ghost use Rattle.kn_solve.specs.Verdicts.{IsJudged};
 ghost use Rattle.kn_step.specs.Sides.{Implies};
 ghost use Rattle.kn_step.specs.Answers.{OnReceived, OnLearned, guards_of};
 
-use crate::deciding::{holds_on, is_among};
+use crate::deciding::holds_on;
 use kn_cond::{Cond, Standing};
 use kn_node::{Config, Machine};
 use kn_packet::{Packet, Queue};
@@ -152,7 +152,7 @@ fn is_said(terms: &Terms, c: &Cond, more: &Cond, literal: Literal) -> bool
     if let Node::Konst(word) = terms.node(literal.term) {
         return holds_on(word, literal.truth);
     }
-    is_among(c.literals(), literal) || is_among(more.literals(), literal)
+    c.literals().contains(&literal) || more.literals().contains(&literal)
 }
 
 /// Packets come into the queue of a machine. Err is want of memory, and changes no more than the queue.

@@ -5,11 +5,10 @@ ghost use Rattle.kn_code.specs.declared.program.Instr.TheVariants as instrs;
 ghost use Rattle.kn_code.specs.Code.{IsInstr};
 ghost use Rattle.kn_term.specs.Terms.{Term};
 ghost use Rattle.kn_term.specs.Nodes.{term_at};
-ghost use Rattle.kn_cond.specs.Meanings.{literal_of};
 ghost use Rattle.kn_model.specs.Terms.{terms, Word};
 ghost use Rattle.kn_model.specs.Nodes.{Failed};
 ghost use Rattle.kn_model.specs.Nets.{Network, code_of};
-ghost use Rattle.kn_model.specs.Rows.{Goes, sets, with_outcome, not_zero, register, payload_of};
+ghost use Rattle.kn_model.specs.Rows.{Goes, sets, with_outcome, payload_of};
 ghost use Rattle.kn_model.specs.Alikes.{TermAlike};
 ghost use Rattle.kn_step.specs.Views.{kind_of};
 ghost use Rattle.kn_built.specs.Built.{Extends};
@@ -44,7 +43,7 @@ pub fn fail(tick: u32, kind: FailKind, way: &mut Way)
     ensures still { IsStill way.old way.new }
 {
     let pc = way.pc;
-    way.set_outcome(Outcome::Failed { kind, pc, tick });
+    way.machine.outcome = Outcome::Failed { kind, pc, tick };
 }
 
 /// A term goes into a register, and the next instruction comes.
@@ -59,18 +58,6 @@ pub fn set(way: &mut Way, a: u8, r: Ref) -> Step
     way.set_register(a, r);
     way.advance();
     Step::Goes
-}
-
-/// That a register is not 0.
-fn not_zero(way: &Way, a: u8) -> Literal
-    requires { a < 16 }
-    ensures literal { literal_of way.now.terms result ≡ not_zero terms (register terms (way_of way.now) a) }
-    ensures stands { result.term.index < length way.now.terms }
-{
-    Literal {
-        term: way.register(a),
-        truth: true,
-    }
 }
 
 /// Whether the index in a register is below a number is to be decided.
@@ -199,7 +186,8 @@ fn brz(spot: &Spot, way: &mut Way, a: u8, to: u16) -> Result<Step, AllocError>
     requires place { way.old.pc < 4096 }
     ensures { (net : Network) → IfOk result (IsStep net spot.now (instrs.Brz a to) way.old way.new) }
 {
-    Ok(Step::Decides(not_zero(way, a)))
+    let term = way.register(a);
+    Ok(Step::Decides(Literal { term, truth: true }))
 }
 
 /// A fresh input goes into a register; a node that has made 65,535 inputs fails by fuel.
@@ -217,7 +205,7 @@ fn input(spot: &Spot, way: &mut Way, a: u8, w: u16) -> Result<Step, AllocError>
         return Ok(Step::Stops);
     }
     let r = way.input(spot.node, index, w as u32)?;
-    way.count_input();
+    way.machine.inputs += 1;
     Ok(set(way, a, r))
 }
 
@@ -307,7 +295,8 @@ fn assert(spot: &Spot, way: &mut Way, a: u8) -> Result<Step, AllocError>
     requires place { way.old.pc < 4096 }
     ensures { (net : Network) → IfOk result (IsStep net spot.now (instrs.Assert a) way.old way.new) }
 {
-    Ok(Step::Decides(not_zero(way, a)))
+    let term = way.register(a);
+    Ok(Step::Decides(Literal { term, truth: true }))
 }
 
 /// The node's number goes into a register.
@@ -347,7 +336,7 @@ fn halt(spot: &Spot, way: &mut Way) -> Result<Step, AllocError>
     requires place { way.old.pc < 4096 }
     ensures { (net : Network) → IfOk result (IsStep net spot.now instrs.Halt way.old way.new) }
 {
-    way.set_outcome(Outcome::Halted);
+    way.machine.outcome = Outcome::Halted;
     Ok(Step::Stops)
 }
 

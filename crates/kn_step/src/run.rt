@@ -112,7 +112,8 @@ fn turn_at<J: Judge>(
     ensures splits { IfOk result (TurnSplits net.now.network spot.now way.new) }
 {
     net.bounds();
-    way.known();
+    // By its type, what a way knows is what was known before the event, with the event's literals.
+    let _ = &way.cond;
     match sides_of(judge, net.limits.conflicts, way, literal)? {
         Sides::First => {
             go(net, spot, instr, false, literal, None, way)?;

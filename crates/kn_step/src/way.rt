@@ -5,10 +5,10 @@ ghost use Rattle.kn_term.specs.Terms.{Word, Input, Apply, Choice};
 ghost use Rattle.kn_term.specs.Nodes.{term_at};
 ghost use Rattle.kn_model.specs.Terms.{terms};
 ghost use Rattle.kn_model.specs.Nodes.{is_running};
-ghost use Rattle.kn_model.specs.Rows.{next, jump, register, with_register, with_memory, with_timer, with_outcome, counted};
+ghost use Rattle.kn_model.specs.Rows.{next, jump, register, with_register, with_memory, with_timer};
 ghost use Rattle.kn_model.specs.Paths.{first_way, path_of};
-ghost use Rattle.kn_model.specs.Alikes.{TermAlike, ConditionAlike, AlikePath};
-ghost use Rattle.kn_step.specs.Views.{outcome_of, state_of, own_of};
+ghost use Rattle.kn_model.specs.Alikes.{TermAlike, AlikePath};
+ghost use Rattle.kn_step.specs.Views.{state_of, own_of};
 ghost use Rattle.kn_step.specs.Ways.{way_of, known_of, IsStill, IsGrown};
 ghost use Rattle.kn_step.specs.Paths.{path_seen};
 
@@ -206,14 +206,6 @@ impl Way {
         self.machine.timers[number as usize] = tick;
     }
 
-    /// Says how the node ended.
-    pub fn set_outcome(&mut self, outcome: Outcome)
-        ensures way { way_of self.new ≡ with_outcome terms (way_of self.old) (outcome_of outcome) }
-        ensures still { IsStill self.old self.new }
-    {
-        self.machine.outcome = outcome;
-    }
-
     /// Goes to the next instruction.
     pub fn advance(&mut self)
         requires { self.old.pc < 2 ^ 16 - 1 }
@@ -229,23 +221,6 @@ impl Way {
         ensures still { IsStill self.old self.new }
     {
         self.pc = to;
-    }
-
-    /// One input more is made.
-    pub fn count_input(&mut self)
-        requires { self.old.machine.inputs < 65535 }
-        ensures way { way_of self.new ≡ counted terms (way_of self.old) }
-        ensures still { IsStill self.old self.new }
-    {
-        self.machine.inputs += 1;
-    }
-
-    /// That all that is known so far is what was known before the event with the event's literals, for a caller that needs
-    /// it in a proof.
-    pub fn known(&self)
-        ensures { ConditionAlike (known_of self.now) ((way_of self.now).state.own ++ (way_of self.now).literals) }
-    {
-        let _ = &self.cond;
     }
 
     /// Whether the node runs on.
@@ -294,8 +269,8 @@ impl Way {
     }
 }
 
-/// Equal packets, in the same order.
-fn copy_packets(alloc: Global, packets: &[Packet]) -> Result<Vec<Packet>, AllocError>
+/// Equal packets, in the same order. Err is want of memory.
+pub fn copy_packets(alloc: Global, packets: &[Packet]) -> Result<Vec<Packet>, AllocError>
     ensures { IfOk result (λ v. v.items ≡ packets.now) }
 {
     let mut copies = Vec::with_capacity(alloc, packets.len())?;

@@ -6,7 +6,7 @@ use Rattle.kn_term.specs.Terms.{Term}
 use Rattle.kn_model.specs.Alikes.{TermAlike}
 use Rattle.kn_step.specs.Ways.{way_of}
 use Rattle.kn_step.proofs.Stepping.{grown_through, grown_stands}
-use Rattle.kn_step.proofs.Elements.{element_end, read_more}
+use Rattle.kn_step.proofs.Elements.{words_fit, element_end, read_more}
 use Rattle.kn_step.proofs.memory.+element.Goals as goal
 
 pub returns-then-place-n-clause-term : goal.returns-then-place-n-clause-term
@@ -26,7 +26,7 @@ returns-clause-term t c =
     let u = c.element.new.way in
     let s = c.is_at.new.way in
     let w = c.choose.new.self in
-    let fits : c.args.m + c.args.n ≤ length (way_of v).state.memory = omega (arith, c.words.ensures, c.requires.span.within) in
+    let fits : c.args.m + c.args.n ≤ length (way_of v).state.memory = words_fit _ v c.args.m c.args.n c.way.view_is c.sizes.ensures.all_words c.requires.span.within in
     let inside : c.args.place < c.args.n = omega (arith, c.requires.place, c.if-place-n.false) in
     IfOk-weaker c.choose.result _ _ (λ r h. read_more v u s w c.args.m c.args.n c.args.place c.args.index.index c.in_ok-same.same.index c.word-word.result.index c.in_ok-others.others.index r.index fits inside c.requires.index
     c.in_ok-others.ensures.grown c.in_ok-others.ensures.term c.in_ok-others.ensures.stands c.in_ok-same.ensures.grown c.in_ok-same.ensures.term c.word-word.ensures.term h) c.choose.ensures.term

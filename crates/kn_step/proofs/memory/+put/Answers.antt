@@ -4,7 +4,7 @@ use Rattle.kn_term.specs.declared.node.Node.{Node}
 use Rattle.kn_term.specs.Nodes.{term_at}
 use Rattle.kn_step.specs.Ways.{way_of, IsGrown}
 use Rattle.kn_step.proofs.Stepping.{grown_self, still_self, changed_of, changed_through, grown_through, grown_stands}
-use Rattle.kn_step.proofs.Elements.{written_end, put_more}
+use Rattle.kn_step.proofs.Elements.{words_fit, written_end, put_more}
 use Rattle.kn_step.proofs.memory.+put.Goals as goal
 
 pub returns-then-place-n-clause-way : goal.returns-then-place-n-clause-way
@@ -38,7 +38,7 @@ put-requires t c =
 pub returns-clause-way : goal.returns-clause-way
 returns-clause-way t c =
     let v = c.args.way.now in
-    let fits : c.args.m + c.args.n ≤ length (way_of v).state.memory = omega (arith, c.words.ensures, c.requires.span.within) in
+    let fits : c.args.m + c.args.n ≤ length (way_of v).state.memory = words_fit _ v c.args.m c.args.n c.way.view_is c.sizes.ensures.all_words c.requires.span.within in
     let inside : c.args.place < c.args.n = omega (arith, c.requires.place, c.if-place-n.false) in
     IfOk-weaker c.put.result _ _ (λ r h. put_more v c.is_at.new.way c.choose.new.self c.set_word.new.self (way_of c.put.new.way) c.args.m c.args.n c.args.place c.args.index.index c.args.value.index c.in_ok-same.same.index c.word-word.result.index c.in_ok-chosen.chosen.index
     fits inside c.requires.index c.requires.value c.in_ok-same.ensures.grown c.in_ok-same.ensures.term c.word-word.ensures.term c.in_ok-chosen.ensures.grows c.in_ok-chosen.ensures.term c.set_word.ensures.way c.set_word.ensures.still h) c.put.ensures.way

@@ -1,7 +1,6 @@
 -- What is known with more literals.
-use Rattle.std.proofs.Common.{◌≡◌, [], ◌++◌, length, sym, subst, ap, ◌∙◌, List}
+use Rattle.std.proofs.Common.{◌++◌, sym, subst}
 use Rattle.std.specs.Prelude.{MatchOption, Option}
-use Rattle.kn_term.specs.declared.node.Literal.{Literal}
 use Rattle.kn_cond.specs.Conditions.{Query, that, IsImpossible, StandsFor}
 use Rattle.kn_cond.specs.Meanings.{condition_of, StandIn}
 use Rattle.kn_cond.specs.declared.standing.Standing.{Standing}

@@ -1,5 +1,5 @@
 -- What a copy of the state learns.
-use Rattle.std.proofs.Common.{◌≤◌, ◌∙◌, sym, subst, ap}
+use Rattle.std.proofs.Common.{◌≤◌, sym, subst}
 use Rattle.std.specs.Prelude.{IfOk}
 use Rattle.kn_cond.specs.Conditions.{that, StandsFor}
 use Rattle.kn_node.specs.Views.{ConfigView}

@@ -1,10 +1,10 @@
 -- What a state learns of packets' guards.
-use Rattle.std.proofs.Common.{◌≡◌, ◌∙◌, sym, subst, ap, length}
+use Rattle.std.proofs.Common.{◌∙◌, sym, subst, ap, length}
 use Rattle.kn_term.specs.Reached.{RootsStand}
 use Rattle.kn_packet.specs.Packets.{PacketView}
 use Rattle.std.specs.Prelude.{List}
-use Rattle.kn_node.specs.Views.{ConfigView, MachineView, IsConfig}
-use Rattle.kn_step.proofs.Received.{queued, config_longer, receive_stands, receive_learned}
+use Rattle.kn_node.specs.Views.{ConfigView, MachineView}
+use Rattle.kn_step.proofs.Received.{config_longer, receive_stands, receive_learned}
 use Rattle.kn_step.proofs.receiving.receive_own.Goals as goal
 
 pub guards-requires : goal.guards-requires

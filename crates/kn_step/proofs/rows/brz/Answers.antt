@@ -1,4 +1,4 @@
-use Rattle.std.proofs.Common.{refl, ap}
+use Rattle.std.proofs.Common.{refl, true}
 use Rattle.kn_code.specs.declared.program.Instr.TheVariants as instrs
 use Rattle.kn_model.specs.Terms.{terms}
 use Rattle.kn_model.specs.Rows.{not_zero, register}
@@ -10,4 +10,4 @@ pub returns : goal.returns
 returns c net =
     let v = c.args.way.now in
     let m = not_zero terms (register terms (way_of v) c.args.a) in
-    decide_step net c.args.spot.now (instrs.Brz c.args.a c.args.to) v v c.not_zero.result m tt refl (grown_self v) c.not_zero.ensures.stands (equal_alike _ _ (ap (λ l. l.value) c.not_zero.ensures.literal)) (ap (λ l. l.truth) c.not_zero.ensures.literal)
+    decide_step net c.args.spot.now (instrs.Brz c.args.a c.args.to) v v (record { term = c.register-term.result; truth = true }) m tt refl (grown_self v) c.register-term.ensures.stands (equal_alike _ _ c.register-term.ensures.term) refl

@@ -1,8 +1,6 @@
 -- The paths of a way, behind others.
-use Rattle.std.proofs.Common.{List, ◌++◌, map, false, true}
+use Rattle.std.proofs.Common.{◌++◌, map, false, true}
 use Rattle.std.specs.Prelude.{Result}
-use Rattle.kn_term.specs.Terms.{Term}
-use Rattle.kn_model.specs.Paths.{Path}
 use Rattle.kn_step.specs.Ways.{way_of}
 use Rattle.kn_step.specs.Effects.{here_of}
 use Rattle.kn_step.specs.Given.{onward}

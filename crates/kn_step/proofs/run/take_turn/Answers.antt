@@ -1,6 +1,5 @@
 -- One instruction of a way.
-use Rattle.std.proofs.Common.{◌≡◌, true, ap}
-use Rattle.std.specs.Prelude.{slice_get, Some}
+use Rattle.std.proofs.Common.{ap}
 use Rattle.kn_model.specs.Nodes.{is_running}
 use Rattle.kn_model.specs.Nets.{code_of}
 use Rattle.kn_step.specs.Ways.{WayView, way_of}
