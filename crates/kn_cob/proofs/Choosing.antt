@@ -1,10 +1,7 @@
 -- Of a live own condition, some path of each event is live. Whether any inputs meet a condition is found by trying the words for
 -- what it reads; and a condition that reads too much to be tried reads too much with more literals.
-use Rattle.std.proofs.Common.{◌≡◌, ◌⊎◌, inl, inr, ℕ, zero, suc, ◌^◌, ◌%◌, ◌<◌, ◌≤◌, Bool, true, false, List, [], ◌∷◌, ◌++◌, length, map, sum_by, get_or, refl, sym, ap, subst, ◌∙◌, arith}
+use Rattle.std.proofs.Common.{◌≡◌, ◌⊎◌, inl, inr, ℕ, zero, suc, ◌^◌, ◌<◌, ◌≤◌, Bool, true, false, List, [], ◌∷◌, ◌++◌, length, map, sum_by, get_or, refl, sym, ap, subst, ◌∙◌, arith}
 use Rattle.std.specs.Prelude.{nat_eq, ◌&&◌, Contains}
-use Rattle.std.specs.List.{AllByRecursion}
-use Rattle.std.proofs.Math.Nat.{mod-lt}
-use Rattle.std.proofs.lemmas.Nat.{pow_pos}
 use Rattle.std.proofs.lemmas.Bool.{eqb-true, eqb-false}
 use Rattle.std.proofs.lemmas.List.{append-nil}
 use Rattle.std.proofs.lemmas.Grind.{flat_map-append}
@@ -12,7 +9,7 @@ use Rattle.kn_cond.specs.declared.standing.Standing.{Standing}
 use Rattle.kn_cond.specs.declared.standing.Standing.TheVariants.{Inputs, Open}
 use Rattle.kn_model.specs.Values.{Literal}
 use Rattle.kn_packet.specs.declared.packet.Event.{Event}
-use Rattle.kn_model.specs.Terms.{Term, Word, Choice, Valuation, terms, listed, input_word, ev}
+use Rattle.kn_model.specs.Terms.{Term, Word, Choice, Valuation, terms, ev}
 use Rattle.kn_model.specs.Conditions.{Condition, Read, Query, holds, literal_holds, reads_in, reads_of, widest, that, AreWords, valuation_of, IsPossible, IsImpossible, IsSmall, IsLive, StandsFor}
 use Rattle.kn_model.specs.Nodes.{State}
 use Rattle.kn_model.specs.Nets.{Network}
@@ -21,8 +18,9 @@ use Rattle.kn_model.specs.Laws.{IsNet}
 use Rattle.kn_model.specs.Alikes.{ConditionAlike}
 use Rattle.kn_model.proofs.Under.{holds-append}
 use Rattle.kn_model.proofs.Beginning.{paths_add, Adds}
-use Rattle.kn_model.proofs.LeastInputs.{Sorted, sorted_widest, live_by}
-use Rattle.kn_model.proofs.AlikeStandings.{Covers, widest_has, listed_same, other_place, listed_other, listed_above, covered_above, cut_wider, Agree, holds_agrees, small}
+use Rattle.kn_model.proofs.LeastInputs.{sorted_widest, live_by}
+use Rattle.kn_model.proofs.AlikeStandings.{widest_has, holds_agrees, small}
+use Rattle.kn_model.proofs.FirstInputs.{words_for, words_fit, all_same}
 use Rattle.kn_model.proofs.Stamped.{In, all-in}
 use Rattle.kn_model.proofs.NeverNone.{paths_some}
 use Rattle.kn_model.proofs.GoesOn.{first_in, choose_by}
@@ -69,36 +67,6 @@ words_found (r ∷ rs) test = go (found_below {A = Found} {B = Lacks} (λ w. wor
     go : ((w : ℕ) × (w < 2 ^ r.width) × Found w) ⊎ ((w : ℕ) → w < 2 ^ r.width → Lacks w) → ((ws : List ℕ) × AreWords (r ∷ rs) ws × (test ws ≡ true)) ⊎ ((ws : List ℕ) → AreWords (r ∷ rs) ws → test ws ≡ false)
     go (inl x) = inl (x.0 ∷ x.2.0, (x.1, x.2.1), x.2.2)
     go (inr f) = inr (none f)
-
--- the words that inputs give to reads
-abbrev word_for : Valuation → Read → ℕ
-word_for b r = input_word b r.node r.index r.width
-
-abbrev words_for : Valuation → List Read → List ℕ
-words_for b rs = map (word_for b) rs
-
-words_fit : (b : Valuation) (rs : List Read) → AreWords rs (words_for b rs)
-words_fit b [] = tt
-words_fit b (r ∷ rs) = (mod-lt (listed b r.node r.index) (pow_pos r.width), words_fit b rs)
-
--- they are the same words for each read that the list covers
-words_same : (b : Valuation) (rs : List Read) → Sorted rs → (q : Read) → Covers rs q → word_for (valuation_of rs (words_for b rs)) q ≡ word_for b q
-words_same b [] s q c = absurd c
-words_same b (r ∷ rs) s q (inl c) =
-    let node = sym c.0.0 in
-    let index = sym c.0.1 in
-    let low : listed (valuation_of rs (words_for b rs)) q.node q.index ≡ 0 =
-    subst (λ n. listed (valuation_of rs (words_for b rs)) n q.index ≡ 0) node (subst (λ n. listed (valuation_of rs (words_for b rs)) r.node n ≡ 0) index (listed_above r rs s.0 (words_for b rs))) in
-    ap (λ (w : ℕ). w % 2 ^ q.width) (listed_same r (word_for b r) (valuation_of rs (words_for b rs)) q.node q.index node index low)
-    ∙ (cut_wider (listed b r.node r.index) q.width r.width c.1
-    ∙ ap (λ (w : ℕ). w % 2 ^ q.width) (ap (λ n. listed b n r.index) node ∙ ap (λ n. listed b q.node n) index))
-words_same b (r ∷ rs) s q (inr c) =
-    ap (λ (w : ℕ). w % 2 ^ q.width) (listed_other r (word_for b r) (valuation_of rs (words_for b rs)) q.node q.index (other_place r q.node q.index (covered_above r rs s.0 q c)))
-    ∙ words_same b rs s.1 q c
-
-all_same : (b : Valuation) (rs qs : List Read) → Sorted rs → AllByRecursion (Covers rs) qs → Agree (valuation_of rs (words_for b rs)) b qs
-all_same b rs [] s h = tt
-all_same b rs (q ∷ qs) s h = (words_same b rs s q h.0, all_same b rs qs s h.1)
 
 -- Some inputs meet a condition, or none do.
 pub possible_or_not : (c : Condition) → IsPossible (that c) ⊎ IsImpossible (that c)

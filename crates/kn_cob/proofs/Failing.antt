@@ -1,5 +1,5 @@
 -- The report of scenarios under copy on branch gives the network.
-use Rattle.std.proofs.Common.{◌≡◌, ◌⊎◌, inl, inr, ℕ, zero, suc, ◌+◌, ◌*◌, ◌<◌, ◌≤◌, Bool, true, false, cond, List, [], ◌∷◌, ◌++◌, length, map, Some, refl, sym, ap, subst, ◌∙◌, arith}
+use Rattle.std.proofs.Common.{◌≡◌, ◌⊎◌, inl, inr, ℕ, zero, suc, ◌+◌, ◌*◌, ◌<◌, ◌≤◌, Bool, true, false, cond, List, [], ◌∷◌, length, map, Some, refl, sym, ap, subst, ◌∙◌, arith}
 use Rattle.std.specs.Prelude.{Contains, slice_get, flat_map}
 use Rattle.std.specs.List.{AllByRecursion}
 use Rattle.std.specs.declared.cmp.Ordering.{Ordering}
@@ -17,20 +17,20 @@ use Rattle.kn_model.specs.Terms.{Term, Valuation}
 use Rattle.kn_model.specs.Nodes.{Node, Outcome, Running, Halted, Failed}
 use Rattle.kn_model.specs.Nets.{Network}
 use Rattle.kn_model.specs.Scenarios.{Scenario, name_of}
-use Rattle.kn_model.specs.Conditions.{that, holds, AreDistinct, StandsFor, IsLeast, IsImpossible}
+use Rattle.kn_model.specs.Conditions.{that, holds, AreDistinct, StandsFor, IsLeast}
 use Rattle.kn_model.specs.Alikes.{ConditionAlike}
 use Rattle.kn_model.specs.Concrete.{scenario_under}
 use Rattle.kn_model.specs.Laws.{IsNet}
-use Rattle.kn_model.specs.Reports.{Report, StateLine, FailureLine, Reach, At, Undecided, Nowhere, Cob, ends, Names, all_picks, pick_name, trace_cmp, Gives, IsFailure, IsFailedState, Rises, MeetsPick, pick_condition, IsReached, ReachIs, HasNoPick, HasFarQuery, AreNumbered, AreRuns, singles}
+use Rattle.kn_model.specs.Reports.{Report, StateLine, FailureLine, Reach, At, Undecided, Nowhere, Names, all_picks, pick_name, trace_cmp, Gives, IsFailure, IsFailedState, Rises, MeetsPick, pick_condition, IsReached, ReachIs, HasNoPick, HasFarQuery, AreNumbered, AreRuns, singles}
 use Rattle.kn_model.proofs.AlikeStandings.{alike_standings}
 use Rattle.kn_model.proofs.FirstInputs.{least_is_first}
 use Rattle.kn_model.proofs.Implied.{run_ends_as_member, run_shows}
 use Rattle.kn_model.proofs.Lists.{all-weaker}
 use Rattle.kn_step.specs.Views.{own_of}
 use Rattle.kn_cob.specs.Runs.{AreScenarios, name_in}
-use Rattle.kn_cob.specs.Reports.{line_of, numbers, dstates_from, is_failed, failed_from, joint_of, IsJoint, IsOfScenario, IsReportOf}
-use Rattle.kn_cob.proofs.Numbered.{some_one, none_some, get_less, get_some, contained_at, contains_at, all_contained, first_of, first_is, numbers_at, singles_at, at_numbers, at_singles, one_of, only}
-use Rattle.kn_cob.proofs.Told.{N, Kept, kept_at, kept_of, pick_is, is_pick, named_is, names_kept, shows_kept, all_names, rows_run, Found, found, found_at, line_is, line_there, less_nodes, same_place, same_scenario, node_found}
+use Rattle.kn_cob.specs.Reports.{numbers, dstates_from, is_failed, failed_from, joint_of, IsJoint, IsOfScenario, IsReportOf}
+use Rattle.kn_cob.proofs.Numbered.{some_one, none_some, get_some, contained_at, contains_at, all_contained, first_of, first_is, numbers_at, singles_at, at_numbers, at_singles, one_of, only}
+use Rattle.kn_cob.proofs.Told.{kept_at, kept_of, pick_is, is_pick, named_is, names_kept, shows_kept, all_names, rows_run, Found, found, found_at, line_is, less_nodes, same_place, same_scenario, node_found}
 use Rattle.kn_cob.proofs.Joint.{joint_alike, has_far}
 
 -- ---- the numbers of failed states

@@ -1,5 +1,5 @@
 -- A report of scenarios has the form of a report.
-use Rattle.std.proofs.Common.{◌≡◌, ℕ, zero, suc, ◌+◌, ◌*◌, ◌<◌, ◌≤◌, Bool, true, List, [], ◌∷◌, ◌++◌, length, Some, refl, sym, ap, subst, ◌∙◌, arith}
+use Rattle.std.proofs.Common.{◌≡◌, ℕ, zero, suc, ◌+◌, ◌*◌, ◌≤◌, Bool, true, List, [], ◌∷◌, length, Some, refl, sym, ap, subst, ◌∙◌, arith}
 use Rattle.std.specs.Prelude.{◌&&◌, flat_map, slice_get, nat_eq, nat_lt}
 use Rattle.std.specs.List.{AllByRecursion}
 use Rattle.std.proofs.lemmas.Bool.{eq-eqb, lt-ltb, le-leb}
@@ -7,7 +7,7 @@ use Rattle.std.proofs.lemmas.List.{length-append}
 use Rattle.std.proofs.lemmas.List.Concat.{flat_map-cons}
 use Rattle.kn_node.specs.Views.{ConfigView}
 use Rattle.kn_model.specs.Nets.{Network}
-use Rattle.kn_model.specs.Reports.{Report, StateLine, FailureLine, Reach, At, Undecided, Nowhere, singles}
+use Rattle.kn_model.specs.Reports.{Report, FailureLine, Reach, At, Undecided, Nowhere, singles}
 use Rattle.kn_model.proofs.Lists.{all-weaker}
 use Rattle.kn_report.specs.Forms.{is_column, all_columns, are_columns, takes, takes_of, is_reach, IsReport}
 use Rattle.kn_cob.specs.Reports.{lines_from, numbers, dstates_from, joint_of, IsJoint, IsOfScenario, IsReportOf, AreLong}

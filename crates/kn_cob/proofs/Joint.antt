@@ -1,17 +1,16 @@
 -- What is asked of a scenario's nodes together.
-use Rattle.std.proofs.Common.{◌≡◌, inl, inr, ℕ, zero, suc, ◌+◌, ◌<◌, Bool, true, List, [], ◌∷◌, ◌++◌, length, map, take, drop, Some, refl, sym, ap, subst, ◌∙◌, arith}
+use Rattle.std.proofs.Common.{◌≡◌, inl, inr, ℕ, zero, suc, ◌+◌, Bool, List, [], ◌∷◌, ◌++◌, length, map, take, drop, Some, refl, sym, ap, subst, ◌∙◌, arith}
 use Rattle.std.specs.Prelude.{Contains, slice_get, slice_index_or, flat_map, ◌&&◌}
-use Rattle.std.specs.List.{AllByRecursion}
 use Rattle.std.proofs.lemmas.List.{map-append, take-map, drop-map}
 use Rattle.std.proofs.lemmas.List.Elements.{Contains-append_left, Contains-append_right, Contains-append_cases}
 use Rattle.kn_node.specs.Views.{ConfigView}
-use Rattle.kn_model.specs.Terms.{Term, Valuation}
+use Rattle.kn_model.specs.Terms.{Term}
 use Rattle.kn_model.specs.Nodes.{Node}
 use Rattle.kn_model.specs.Nets.{Network}
 use Rattle.kn_model.specs.Conditions.{Condition, Read, Query, reads_of, holds, that, that_with, IsFar}
 use Rattle.kn_model.specs.Alikes.{OneByOne, ConditionAlike}
 use Rattle.kn_model.specs.Laws.{IsNet}
-use Rattle.kn_model.specs.Reports.{Report, StateLine, pick_condition, NodeIn, OwnsOf, AllOwnsOf, own_at, IsQuery, HasFarQuery, singles}
+use Rattle.kn_model.specs.Reports.{Report, StateLine, pick_condition, NodeIn, AllOwnsOf, IsQuery, HasFarQuery, singles}
 use Rattle.kn_model.proofs.Under.{holds-append}
 use Rattle.kn_model.proofs.JoinedQuery.{reads_append}
 use Rattle.kn_model.proofs.OneByOne.{pairs-append}

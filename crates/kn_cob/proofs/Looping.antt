@@ -1,5 +1,5 @@
 -- A loop over a list of copies, in tick t, that makes copies, in tick u, of what comes of each scenario.
-use Rattle.std.proofs.Common.{◌≡◌, ℕ, List, [], ◌∷◌, ◌++◌, length, flat_map, refl, sym, ap, subst, ◌∙◌, append_assoc, append-nil}
+use Rattle.std.proofs.Common.{◌≡◌, ℕ, List, [], ◌∷◌, ◌++◌, flat_map, refl, sym, ap, subst, ◌∙◌, append_assoc, append-nil}
 use Rattle.std.specs.List.{AllByRecursion}
 use Rattle.std.proofs.lemmas.Grind.{flat_map-append}
 use Rattle.kn_model.specs.Terms.{Term}
@@ -17,10 +17,10 @@ module _ (net : Network) (t u : ℕ) (g : Scenario Term → List (Scenario Term)
     pub rest : List (List NodeView)
     pub split : list ≡ yielded ++ rest
     pub done : List (Scenario Term)
-    pub todo : List (Scenario Term)
-    pub parts : ss ≡ done ++ todo
+    pub left : List (Scenario Term)
+    pub parts : ss ≡ done ++ left
     pub made : AreCopies net u out (flat_map g done)
-    pub others : AreCopies net t rest todo
+    pub others : AreCopies net t rest left
 
   -- at the next copy
   pub record AtNext (out : List (List NodeView)) (c : List NodeView) (list yielded : List (List NodeView)) (ss : List (Scenario Term)) : Type 0 where
@@ -28,15 +28,15 @@ module _ (net : Network) (t u : ℕ) (g : Scenario Term → List (Scenario Term)
     pub split : list ≡ yielded ++ (c ∷ rest)
     pub done : List (Scenario Term)
     pub scenario : Scenario Term
-    pub todo : List (Scenario Term)
-    pub parts : ss ≡ done ++ (scenario ∷ todo)
+    pub left : List (Scenario Term)
+    pub parts : ss ≡ done ++ (scenario ∷ left)
     pub copy : IsCopy net t c scenario
     pub made : AreCopies net u out (flat_map g done)
-    pub others : AreCopies net t rest todo
+    pub others : AreCopies net t rest left
 
   -- before the first copy
   pub at_start : (list : List (List NodeView)) (ss : List (Scenario Term)) → AreCopies net t list ss → Halfway [] list [] ss
-  at_start list ss h = record { rest = list; split = refl; done = []; todo = ss; parts = refl; made = tt; others = h }
+  at_start list ss h = record { rest = list; split = refl; done = []; left = ss; parts = refl; made = tt; others = h }
 
   -- what comes of those up to the next copy and of its own scenario
   pub with_next : (done : List (Scenario Term)) (s : Scenario Term) → flat_map g (done ++ (s ∷ [])) ≡ flat_map g done ++ g s
@@ -49,8 +49,8 @@ module _ (net : Network) (t u : ℕ) (g : Scenario Term → List (Scenario Term)
     rest = m.rest;
     split = m.split ∙ sym (append_assoc yielded (c ∷ []) m.rest);
     done = m.done ++ (m.scenario ∷ []);
-    todo = m.todo;
-    parts = m.parts ∙ sym (append_assoc m.done (m.scenario ∷ []) m.todo);
+    left = m.left;
+    parts = m.parts ∙ sym (append_assoc m.done (m.scenario ∷ []) m.left);
     made = subst (AreCopies net u new) (sym (with_next m.done m.scenario)) h;
     others = m.others;
   }
@@ -66,13 +66,13 @@ module _ (net : Network) (t u : ℕ) (g : Scenario Term → List (Scenario Term)
     pub at_next : (out list yielded : List (List NodeView)) (c : List NodeView) (rest : List (List NodeView)) (ss : List (Scenario Term)) → Halfway out list yielded ss → list ≡ yielded ++ (c ∷ rest) → AtNext out c list yielded ss
     at_next out list yielded c rest ss m e =
         let same : m.rest ≡ c ∷ rest = same_rest yielded m.rest (c ∷ rest) (sym m.split ∙ e) in
-        let r = first_copy net t c rest m.todo (subst (λ (l : List (List NodeView)). AreCopies net t l m.todo) same m.others) in
+        let r = first_copy net t c rest m.left (subst (λ (l : List (List NodeView)). AreCopies net t l m.left) same m.others) in
         record {
           rest = rest;
           split = e;
           done = m.done ++ r.before;
           scenario = r.scenario;
-          todo = r.after;
+          left = r.after;
           parts = m.parts ∙ (ap (λ (l : List (Scenario Term)). m.done ++ l) r.parts ∙ sym (append_assoc m.done r.before (r.scenario ∷ r.after)));
           copy = r.copy;
           made = after_lost out m.done r.before r.lost m.made;
@@ -83,5 +83,5 @@ module _ (net : Network) (t u : ℕ) (g : Scenario Term → List (Scenario Term)
     pub at_end : (out list yielded : List (List NodeView)) (ss : List (Scenario Term)) → Halfway out list yielded ss → list ≡ yielded → AreCopies net u out (flat_map g ss)
     at_end out list yielded ss m e =
         let none : m.rest ≡ [] = same_rest yielded m.rest [] (sym m.split ∙ (e ∙ sym (append-nil yielded))) in
-        let lost = all_lost net t m.todo (subst (λ (l : List (List NodeView)). AreCopies net t l m.todo) none m.others) in
-        subst (λ (l : List (Scenario Term)). AreCopies net u out (flat_map g l)) (sym m.parts) (after_lost out m.done m.todo lost m.made)
+        let lost = all_lost net t m.left (subst (λ (l : List (List NodeView)). AreCopies net t l m.left) none m.others) in
+        subst (λ (l : List (Scenario Term)). AreCopies net u out (flat_map g l)) (sym m.parts) (after_lost out m.done m.left lost m.made)

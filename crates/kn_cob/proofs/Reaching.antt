@@ -25,7 +25,6 @@ use Rattle.kn_cob.specs.Copies.{AreNodes, IsCopy, AreCopies}
 use Rattle.kn_cob.specs.Among.{Among}
 use Rattle.kn_cob.specs.Ticks.{so_far, IsTurning}
 use Rattle.kn_cob.proofs.Ticks.{Whole, turns_last, so_far_next, cob_after, whole_turning, whole_so_far}
-use Rattle.kn_cob.proofs.Given.{Made, parted}
 use Rattle.kn_cob.proofs.Choosing.{HasWay, way_of_live, live_of_way, live_of_standing, choose_live}
 
 -- ---- some of a list
@@ -303,16 +302,3 @@ settled_over net t n fine inside part rest e cs given more =
     let of = scenarios_of net t cs part given in
     let same = of.as_many in
     over_settled net t n fine inside part rest e of.taken of.among of.live (omega (arith, more, same))
-
--- The same in the loops that run an event, or all events, of a node.
-pub turned_loop_over : (net : Network) (t n count : ℕ) (s : Scenario Term) → IsNet net → IsTurning net t n count s → (out list yielded : List (List NodeView)) → Made net t (copies terms net n t) out list yielded (turns terms net n t count s)
-    → net.limits.dstates < length out → TooManyCopies net t
-turned_loop_over net t n count s fine is out list yielded m more =
-    let g = copies terms net n t in
-    turned_over net t n count s fine is (flat_map g m.done) (flat_map g m.todo) (parted net t g out list yielded (turns terms net n t count s) m) out m.made more
-
-pub settled_loop_over : (net : Network) (t n : ℕ) → IsNet net → n < length net.nodes → (out list yielded : List (List NodeView)) → Made net t (settled terms net t n) out list yielded (so_far net t n)
-    → net.limits.dstates < length out → TooManyCopies net t
-settled_loop_over net t n fine inside out list yielded m more =
-    let g = settled terms net t n in
-    settled_over net t n fine inside (flat_map g m.done) (flat_map g m.todo) (so_far_next net t n ∙ parted net t g out list yielded (so_far net t n) m) out m.made more

@@ -1,5 +1,5 @@
 -- A report that is made scenario by scenario.
-use Rattle.std.proofs.Common.{◌≡◌, ℕ, zero, suc, ◌+◌, ◌-◌, ◌*◌, ◌<◌, ◌≤◌, Bool, true, false, cond, List, [], ◌∷◌, ◌++◌, length, map, take, drop, Some, refl, sym, ap, subst, ◌∙◌, arith, append_assoc}
+use Rattle.std.proofs.Common.{◌≡◌, ℕ, zero, suc, ◌+◌, ◌-◌, ◌*◌, ◌<◌, ◌≤◌, Bool, true, false, cond, List, [], ◌∷◌, ◌++◌, length, map, drop, Some, refl, sym, ap, subst, ◌∙◌, arith, append_assoc}
 use Rattle.std.specs.Prelude.{flat_map, slice_get, Vec, Result, IfOk}
 use Rattle.std.specs.declared.alloc.Global.{Global}
 use Rattle.std.specs.declared.alloc.AllocError.{AllocError}
@@ -19,7 +19,7 @@ use Rattle.kn_solve.specs.Laws.{WithoutColumns}
 use Rattle.kn_solve.specs.Verdicts.{IsJudged}
 use Rattle.kn_report.specs.Views.{lists_of}
 use Rattle.kn_step.specs.Views.{own_of}
-use Rattle.kn_cob.specs.Reports.{line_of, lines_from, numbers, dstates_from, is_failed, failed_from, joint_of, IsJoint, IsOfScenario, IsReportOf, AreLong, reach_by, reached_at, AreFailuresOf}
+use Rattle.kn_cob.specs.Reports.{line_of, lines_from, numbers, dstates_from, is_failed, failed_from, joint_of, IsJoint, IsOfScenario, IsReportOf, reach_by, reached_at, AreFailuresOf}
 use Rattle.kn_cob.proofs.Numbered.{some_one, none_some, length-lines_from}
 
 -- ---- what is left from a place on

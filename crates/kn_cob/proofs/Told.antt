@@ -1,5 +1,5 @@
 -- What a report tells of the scenarios that it is of: which member a pick names, and which node a state is of.
-use Rattle.std.proofs.Common.{◌≡◌, inl, inr, ℕ, zero, suc, ◌+◌, ◌*◌, ◌<◌, Bool, List, [], ◌∷◌, ◌++◌, length, map, Some, refl, sym, ap, subst, ◌∙◌, arith}
+use Rattle.std.proofs.Common.{◌≡◌, inl, inr, ℕ, zero, suc, ◌+◌, ◌<◌, Bool, List, [], ◌∷◌, ◌++◌, length, map, Some, refl, sym, ap, subst, ◌∙◌, arith}
 use Rattle.std.specs.Prelude.{Contains, slice_get, flat_map}
 use Rattle.std.specs.List.{AllByRecursion}
 use Rattle.std.proofs.lemmas.Bool.{cases_lt}
@@ -9,14 +9,14 @@ use Rattle.kn_node.specs.Views.{ConfigView}
 use Rattle.kn_model.specs.Terms.{Term}
 use Rattle.kn_model.specs.Nodes.{Node}
 use Rattle.kn_model.specs.Nets.{Network}
-use Rattle.kn_model.specs.Scenarios.{Scenario, name_of}
+use Rattle.kn_model.specs.Scenarios.{Scenario}
 use Rattle.kn_model.specs.Laws.{IsNet}
 use Rattle.kn_model.specs.Reports.{Report, StateLine, ends, IsLine, Shows, Names, IsPick, all_picks, trace_at, pick_name, NodeIn, AreRuns, singles}
 use Rattle.kn_model.proofs.Named.{one_by_name, shown_name}
 use Rattle.kn_model.proofs.Naming.{have_nodes}
 use Rattle.kn_cob.specs.Runs.{IsEnd, AreEnds, IsMember, name_in, AreScenarios}
 use Rattle.kn_cob.specs.Reports.{line_of, numbers, dstates_from, AreLong, IsReportOf}
-use Rattle.kn_cob.proofs.Numbered.{some_one, get_map, map_get, get_less, get_some, all_at, all_contained, Matches, AllMatch, all_match, matches_at, first_of, firsts_apart, Row, row_of, row_at, numbers_at, at_numbers, picks_single, one_of, only, spot_of}
+use Rattle.kn_cob.proofs.Numbered.{some_one, get_less, get_some, all_at, all_contained, Matches, AllMatch, all_match, matches_at, first_of, firsts_apart, Row, row_of, row_at, numbers_at, at_numbers, picks_single, one_of, only, spot_of}
 
 -- ---- what is kept of the nodes of a member
 

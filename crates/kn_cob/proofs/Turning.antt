@@ -1,9 +1,8 @@
 -- Steps of an exploration: a turn, all events of a node, and a tick's end.
-use Rattle.std.proofs.Common.{◌≡◌, inl, inr, ℕ, zero, suc, ◌+◌, ◌-◌, ◌<◌, ◌≤◌, Bool, true, false, List, [], ◌∷◌, ◌++◌, length, map, flat_map, get_or, Option, Some, None, refl, sym, ap, subst, ◌∙◌, arith, append_assoc, append-nil, lt-ltb}
+use Rattle.std.proofs.Common.{◌≡◌, inl, inr, ℕ, zero, suc, ◌+◌, ◌-◌, ◌<◌, ◌≤◌, Bool, true, false, List, [], ◌∷◌, ◌++◌, length, map, flat_map, Option, Some, None, refl, sym, ap, subst, ◌∙◌, arith, append_assoc, append-nil}
 use Rattle.std.specs.Prelude.{Contains, ◌||◌, is_some, nat_lt, Result, Ok, Err, IfErr, ⊤}
 use Rattle.std.specs.List.{AllByRecursion}
 use Rattle.std.proofs.lemmas.Bool.{ltb-true, ltb-false}
-use Rattle.std.proofs.lemmas.List.{length-append}
 use Rattle.std.proofs.lemmas.Grind.{flat_map-append}
 use Rattle.kn_packet.specs.declared.packet.Event.{Event}
 use Rattle.kn_node.specs.Due as kept
@@ -17,9 +16,7 @@ use Rattle.kn_model.specs.Alikes.{OneByOne}
 use Rattle.kn_model.specs.Shapes.{IsLost}
 use Rattle.kn_model.specs.Laws.{IsNet}
 use Rattle.kn_model.proofs.OwnGrows.{close_lost}
-use Rattle.kn_model.proofs.Quiet.{none_left}
 use Rattle.kn_model.proofs.Settling.{enough}
-use Rattle.kn_model.proofs.Implied.{all-contains}
 use Rattle.kn_step.specs.Views.{state_of, own_of}
 use Rattle.kn_step.specs.Paths.{PathView}
 use Rattle.kn_step.specs.declared.path.LimitKind.{LimitKind}
@@ -30,17 +27,17 @@ use Rattle.kn_cob.specs.Nodes.{NodeView}
 use Rattle.kn_cob.specs.Copies.{AreNodes, IsCopy, AreCopies, node_in, along}
 use Rattle.kn_cob.specs.Closing.{AreShut, IsStanding, IsClosed, HasShutOut, AreStarts, configs_in}
 use Rattle.kn_cob.specs.Runs.{EndsGiven}
-use Rattle.kn_cob.specs.Ticks.{so_far, some_due, limit_of, IsTurning, IsMetCopy, AreTurned, IsSettling, IsRun, StopsIn, StopsAt, IsPassed}
+use Rattle.kn_cob.specs.Ticks.{so_far, some_due, limit_of, IsMetCopy, AreTurned, IsSettling, IsRun, StopsIn, StopsAt, IsPassed}
 use Rattle.kn_cob.specs.declared.stop.Stop.{Stop}
 use Rattle.kn_cob.specs.declared.stop.Stop.TheVariants as stops
-use Rattle.kn_cob.proofs.Given.{copies_append, copies_none, copies_after, all_lost}
-use Rattle.kn_cob.proofs.Lost.{copies_lost, turns_lost, settled_lost}
-use Rattle.kn_cob.proofs.Ticks.{met_at, turns_last, so_far_next, flat_flat, flat_ones, whole_so_far}
+use Rattle.kn_cob.proofs.Given.{copies_append, copies_none, copies_after}
+use Rattle.kn_cob.proofs.Lost.{turns_lost}
+use Rattle.kn_cob.proofs.Ticks.{met_at, turns_last, so_far_next, flat_flat}
 use Rattle.kn_cob.proofs.Reaching.{turned_over, settled_over}
 use Rattle.kn_cob.proofs.Paths.{due_same, event_copies, over_paths}
 use Rattle.kn_cob.proofs.Closing.{copy_ends, closed_copy, closed_lost}
 use Rattle.kn_cob.proofs.EachNode.{as_many}
-use Rattle.kn_cob.proofs.Looping.{Halfway, AtNext, at_next, with_next}
+use Rattle.kn_cob.proofs.Looping.{AtNext}
 
 -- an item of a list in two parts
 there_in : {A : Type 0} (xs done rest : List A) (x : A) → xs ≡ done ++ (x ∷ rest) → Contains xs x
@@ -184,7 +181,7 @@ module _ (net : Network) (t n : ℕ) where
     next_met list a out yielded c m = record {
       scenario = m.scenario;
       of = m.copy;
-      met = met_at net t n a.count a.start m.scenario a.turning (there_in (turns terms net n t a.count a.start) m.done m.todo m.scenario m.parts);
+      met = met_at net t n a.count a.start m.scenario a.turning (there_in (turns terms net n t a.count a.start) m.done m.left m.scenario m.parts);
     }
 
     -- too many copies in a turn
@@ -192,20 +189,20 @@ module _ (net : Network) (t n : ℕ) where
         → (new : List (List NodeView)) → AreCopies net t new (flat_map (copies terms net n t) m.done ++ copies terms net n t m.scenario) → net.limits.dstates < length new → TooManyCopies net t
     many_in_turn list a out yielded c m new h many =
         let g = copies terms net n t in
-        turned_over net t n a.count a.start good a.turning (flat_map g m.done ++ g m.scenario) (flat_map g m.todo)
-        (front_of g (turns terms net n t a.count a.start) m.done (m.scenario ∷ m.todo) m.parts ∙ sym (append_assoc (flat_map g m.done) (g m.scenario) (flat_map g m.todo))) new h many
+        turned_over net t n a.count a.start good a.turning (flat_map g m.done ++ g m.scenario) (flat_map g m.left)
+        (front_of g (turns terms net n t a.count a.start) m.done (m.scenario ∷ m.left) m.parts ∙ sym (append_assoc (flat_map g m.done) (g m.scenario) (flat_map g m.left))) new h many
 
     -- the next copy once the nodes before n have run
     pub next_settling : (list out yielded : List (List NodeView)) (c : List NodeView) → AtNext net t t (settled terms net t n) out c list yielded (so_far net t n) → IsSettling net t n c
-    next_settling list out yielded c m = record { scenario = m.scenario; from = there_in (so_far net t n) m.done m.todo m.scenario m.parts; of = m.copy }
+    next_settling list out yielded c m = record { scenario = m.scenario; from = there_in (so_far net t n) m.done m.left m.scenario m.parts; of = m.copy }
 
     -- too many copies after a node's events
     pub many_in_node : (list out yielded : List (List NodeView)) (c : List NodeView) (m : AtNext net t t (settled terms net t n) out c list yielded (so_far net t n))
         → (new : List (List NodeView)) → AreCopies net t new (flat_map (settled terms net t n) m.done ++ settled terms net t n m.scenario) → net.limits.dstates < length new → TooManyCopies net t
     many_in_node list out yielded c m new h many =
         let g = settled terms net t n in
-        settled_over net t n good inside (flat_map g m.done ++ g m.scenario) (flat_map g m.todo)
-        (so_far_next net t n ∙ (front_of g (so_far net t n) m.done (m.scenario ∷ m.todo) m.parts ∙ sym (append_assoc (flat_map g m.done) (g m.scenario) (flat_map g m.todo)))) new h many
+        settled_over net t n good inside (flat_map g m.done ++ g m.scenario) (flat_map g m.left)
+        (so_far_next net t n ∙ (front_of g (so_far net t n) m.done (m.scenario ∷ m.left) m.parts ∙ sym (append_assoc (flat_map g m.done) (g m.scenario) (flat_map g m.left)))) new h many
 
     -- one turn of all events of a copy's node
     pub one_turned : (c : List NodeView) (is : IsSettling net t n c) (k : ℕ) (list : List (List NodeView)) → AreCopies net t list (turns terms net n t k is.scenario) → some_due t n list ≡ true → AreTurned net t n list

@@ -16,6 +16,7 @@ ghost use Rattle.kn_cob.specs.Ticks.{IsMetCopy, AreTurned, IsSettling, IsRun, so
 ghost use Rattle.kn_cob.specs.Runs.{IsBare, AreScenarios};
 
 use crate::copies::NetworkCopy;
+use crate::node::node_count;
 use crate::ordering::sort_by_name;
 use crate::run::{CobRun, Scenario};
 use crate::stop::Stop;
@@ -244,14 +245,6 @@ fn settle_all<L: Ledger>(
         }
     }
     Ok(out)
-}
-
-/// How many nodes there are, 1 to 64.
-fn node_count(net: &Net) -> u32
-    ensures { result ≡ length net.now.network.nodes }
-{
-    net.bounds();
-    net.nodes.len() as u32
 }
 
 /// The events of a tick, node after node.

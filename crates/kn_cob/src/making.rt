@@ -9,6 +9,7 @@ ghost use Rattle.kn_step.specs.Views.{outcome_of};
 ghost use Rattle.kn_cob.specs.Runs.{AreScenarios};
 ghost use Rattle.kn_cob.specs.Reports.{line_of, lines_from, numbers, is_failed, failed_from, joint_of, reach_by, reached_at, AreLong, AreFailuresOf, IsReportOf};
 
+use crate::node::node_count;
 use crate::run::{CobRun, Scenario};
 use kn_node::{Config, Outcome};
 use kn_plan::Net;
@@ -37,15 +38,6 @@ pub fn report_of(alloc: Global, net: &Net, run: &CobRun) -> Result<Report, Alloc
 {
     comes_later(net);
     report_from(alloc, net, &run.scenarios)
-}
-
-/// How many nodes there are, 1 to 64.
-fn node_count(net: &Net) -> u32
-    ensures count { result ≡ length net.now.network.nodes }
-    ensures most { result ≤ 64 }
-{
-    net.bounds();
-    net.nodes.len() as u32
 }
 
 /// The report of scenarios, each of as many nodes as the network has.

@@ -1,6 +1,6 @@
-//! A node in a tick.
+//! The nodes of a network in a tick.
 
-ghost use Rattle.std.specs.Prelude.{◌≡◌, ◌++◌, ◌<◌, [], filter, length, nat_eq, false, Some, IfOk, OnOk};
+ghost use Rattle.std.specs.Prelude.{◌≡◌, ◌++◌, ◌<◌, ◌≤◌, [], filter, length, nat_eq, false, Some, IfOk, OnOk};
 ghost use Rattle.std.specs.Arc.{arc_value};
 ghost use Rattle.kn_cond.specs.Conditions.{that, StandsFor};
 ghost use Rattle.kn_plan.specs.Nets.{plan_of};
@@ -12,7 +12,7 @@ ghost use Rattle.kn_cob.specs.Closing.{OnClosed};
 use kn_node::{Config, open_config};
 use kn_packet::Packet;
 use kn_plan::Net;
-use kn_step::receive;
+use kn_step::{copy_packets, receive};
 use std::alloc::{AllocError, Global};
 use std::marker::Model;
 use std::sync::Arc;
@@ -34,6 +34,15 @@ impl Model for NodeNow {
     ghost view = { λ x. record { config = arc_value x.config; inbox = x.inbox.items } };
 }
 
+/// How many nodes a network has, 1 to 64.
+pub fn node_count(net: &Net) -> u32
+    ensures count { result ≡ length net.now.network.nodes }
+    ensures most { result ≤ 64 }
+{
+    net.bounds();
+    net.nodes.len() as u32
+}
+
 /// Packets that are for a node come behind those that it was sent. Err is want of memory.
 fn add_for(node: u32, sends: &[Packet], inbox: &mut Vec<Packet>) -> Result<(), AllocError>
     ensures { OnOk result (inbox.new.items ≡ inbox.old.items ++ filter (λ p. nat_eq p.to node) sends.now) }
@@ -44,17 +53,6 @@ fn add_for(node: u32, sends: &[Packet], inbox: &mut Vec<Packet>) -> Result<(), A
         }
     }
     Ok(())
-}
-
-/// Equal packets, in the same order. Err is want of memory.
-fn copy_packets(alloc: Global, packets: &[Packet]) -> Result<Vec<Packet>, AllocError>
-    ensures { IfOk result (λ v. v.items ≡ packets.now) }
-{
-    let mut copies = Vec::with_capacity(alloc, packets.len())?;
-    for packet in packets {
-        copies.push(packet.copy()?)?;
-    }
-    Ok(copies)
 }
 
 /// Whether some packet is for a node.

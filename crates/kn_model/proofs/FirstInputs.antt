@@ -36,13 +36,13 @@ are_entries (r ∷ rs) s (w ∷ ws) = go (nat_eq w 0) refl (are_entries rs s.1 w
 
 -- ---- the words that inputs give to reads
 
-abbrev word_for : Valuation → Read → ℕ
+abbrev pub word_for : Valuation → Read → ℕ
 word_for b r = input_word b r.node r.index r.width
 
-abbrev words_for : Valuation → List Read → List ℕ
+abbrev pub words_for : Valuation → List Read → List ℕ
 words_for b rs = map (word_for b) rs
 
-words_fit : (b : Valuation) (rs : List Read) → AreWords rs (words_for b rs)
+pub words_fit : (b : Valuation) (rs : List Read) → AreWords rs (words_for b rs)
 words_fit b [] = tt
 words_fit b (r ∷ rs) = (mod-lt (listed b r.node r.index) (pow_pos r.width), words_fit b rs)
 
@@ -61,7 +61,7 @@ words_same b (r ∷ rs) s q (inr c) =
     ap (λ (w : ℕ). w % 2 ^ q.width) (listed_other r (word_for b r) (valuation_of rs (words_for b rs)) q.node q.index (other_place r q.node q.index (covered_above r rs s.0 q c)))
     ∙ words_same b rs s.1 q c
 
-all_same : (b : Valuation) (rs qs : List Read) → Sorted rs → AllByRecursion (Covers rs) qs → Agree (valuation_of rs (words_for b rs)) b qs
+pub all_same : (b : Valuation) (rs qs : List Read) → Sorted rs → AllByRecursion (Covers rs) qs → Agree (valuation_of rs (words_for b rs)) b qs
 all_same b rs [] s h = tt
 all_same b rs (q ∷ qs) s h = (words_same b rs s q h.0, all_same b rs qs s h.1)
 

@@ -1,14 +1,14 @@
 -- A whole report out of its sections.
 use Rattle.std.proofs.Common.{◌≡◌, ℕ, zero, suc, true, ◌+◌, ◌≤◌, ◌<◌, ◌⊎◌, inl, inr, List, [], ◌∷◌, ◌++◌, length, map, refl, ap, sym, subst, ◌∙◌, arith, append_assoc, append-nil, length-append}
 use Rattle.std.proofs.lemmas.List.{length-map}
-use Rattle.std.specs.Prelude.{Some, None, Option, slice_get, flat_map, Ok}
+use Rattle.std.specs.Prelude.{Some, slice_get, flat_map, Ok}
 use Rattle.std.specs.List.{AllByRecursion}
 use Rattle.std.proofs.lemmas.List.Concat.{flat_map-cons}
 use Rattle.kn_model.specs.Reports.{Mapping, Report, StateLine, FailureLine}
 use Rattle.kn_report.specs.Forms.{AreLines, IsReport, Fits, StateFits, ColumnsFit, FailureFits, Names, are_columns, is_reach, failed_from}
 use Rattle.kn_report.specs.Heads.{HeadView, HeadFits, spelled_head, head_in}
-use Rattle.kn_report.specs.Reading.{BeginsWithLines, BeginsWithReport, Begins, IsFaultAt, IsReadOf}
-use Rattle.kn_report.specs.Sections.{IsState, IsDstate, IsFailureOf, IsFailure, failure_at}
+use Rattle.kn_report.specs.Reading.{BeginsWithLines, Begins, IsFaultAt, IsReadOf}
+use Rattle.kn_report.specs.Sections.{IsState, IsDstate, IsFailure, failure_at}
 use Rattle.kn_report.specs.Texts.{numbered_from, state_text, dstate_text, failure_text, head_text, end_text, lines_text, line_count, report_text}
 use Rattle.kn_report.specs.Words.{IsItemRead, AllFrom, AreRead}
 

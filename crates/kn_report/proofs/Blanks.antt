@@ -1,5 +1,5 @@
 -- Which bytes do not stand in words and lines.
-use Rattle.std.proofs.Common.{◌≡◌, ℕ, ◌<◌, ◌≤◌, ◌^◌, ◌+◌, Bool, true, false, ◌&&◌, List, [], ◌∷◌, ◌++◌, map, length, refl, ap, sym, subst, ◌∙◌, arith}
+use Rattle.std.proofs.Common.{◌≡◌, ℕ, ◌<◌, ◌^◌, ◌+◌, Bool, true, false, ◌&&◌, List, [], ◌∷◌, ◌++◌, map, refl, sym, subst, arith}
 use Rattle.std.specs.Prelude.{leb, codes, flat_map}
 use Rattle.std.specs.Fmt.{decimal}
 use Rattle.std.specs.List.{AllByRecursion}
@@ -11,7 +11,7 @@ use Rattle.kn_model.specs.Nodes.{FailKind, Assert, Bounds, Fuel, Outcome, Runnin
 use Rattle.kn_cond.specs.declared.standing.Standing.{Standing}
 use Rattle.kn_cond.specs.declared.standing.Standing.TheVariants.{Inputs, Open}
 use Rattle.kn_model.specs.Reports.{StateLine, FailureLine, Mapping, Sds, Cob, Reach, At, Undecided, Nowhere}
-use Rattle.kn_report.specs.Forms.{GivenFits, InputsFit, StandingFits, OutcomeFits, StateFits, ReachFits, FailureFits, ColumnsFit}
+use Rattle.kn_report.specs.Forms.{GivenFits, StandingFits, OutcomeFits, StateFits, ReachFits, FailureFits, ColumnsFit}
 use Rattle.kn_report.specs.Heads.{HeadView, HeadFits, spelled_body}
 use Rattle.kn_report.specs.Texts.{mapping_text, kind_text, outcome_text, input_text, further, inputs_text, standing_text, state_body, behind_comma, behind_blank, column_text, column_word, dstate_body, reach_text, failure_body}
 use Rattle.kn_report.specs.Words.{Without}

@@ -1,6 +1,6 @@
 -- The line of a failed state at the front of a text.
-use Rattle.std.proofs.Common.{◌≡◌, ℕ, true, false, List, ◌++◌, refl, ap, sym, subst, ◌∙◌}
-use Rattle.std.specs.Prelude.{Some, None, Option, codes}
+use Rattle.std.proofs.Common.{◌≡◌, ℕ, true, false, List, ◌++◌, refl, sym, subst, ◌∙◌}
+use Rattle.std.specs.Prelude.{Some, None, Option}
 use Rattle.kn_model.specs.Reports.{FailureLine, Reach}
 use Rattle.kn_report.specs.declared.report.Reached.{Reached}
 use Rattle.kn_report.specs.Forms.{FailureFits, is_reach}
@@ -10,7 +10,7 @@ use Rattle.kn_report.specs.Views.{reach_of}
 use Rattle.kn_report.specs.Words.{Without, BeginsWith, IsItemRead, Reads}
 use Rattle.kn_report.proofs.Blanks.{failure_without}
 use Rattle.kn_report.proofs.Cut.{some_is}
-use Rattle.kn_report.proofs.Lines.{line_of_none, line_of_other, line_of_item, line_cut}
+use Rattle.kn_report.proofs.Lines.{line_of_other, line_of_item, line_cut}
 
 module _ (dstates : List (List (List ℕ))) (state : ℕ) (text line rest : List ℕ) (is : text ≡ line ++ rest) (w : Without 10 line) (b : BeginsWith 10 rest)
     (o : Option Reached) (reads : (f : FailureLine) → FailureFits f → line ≡ failure_body f → Reads reach_of f.reach o) where

@@ -1,20 +1,18 @@
 -- The fields of a line, one by one.
-use Rattle.std.proofs.Common.{◌≡◌, ℕ, ◌<◌, ◌^◌, ◌+◌, Bool, List, [], ◌∷◌, ◌++◌, length, refl, ap, sym, subst, ◌∙◌, arith, append_assoc, append-nil}
+use Rattle.std.proofs.Common.{◌≡◌, ℕ, ◌<◌, ◌^◌, ◌+◌, List, [], ◌∷◌, ◌++◌, length, refl, sym, subst, ◌∙◌, arith}
 use Rattle.std.specs.Prelude.{codes, flat_map}
 use Rattle.std.specs.Fmt.{decimal}
-use Rattle.std.specs.List.{AllByRecursion}
 use Rattle.std.proofs.lemmas.List.Concat.{flat_map-cons}
 use Rattle.kn_trace.specs.Text.{text_of}
-use Rattle.kn_model.specs.Terms.{Given, Valuation}
-use Rattle.kn_model.specs.Nodes.{FailKind, Outcome, Failed}
-use Rattle.kn_cond.specs.declared.standing.Standing.{Standing}
-use Rattle.kn_model.specs.Reports.{StateLine, FailureLine, Mapping, Reach, At}
-use Rattle.kn_report.specs.Forms.{GivenFits, InputsFit, StandingFits, OutcomeFits, StateFits, ReachFits, FailureFits, ColumnsFit}
+use Rattle.kn_model.specs.Terms.{Given}
+use Rattle.kn_model.specs.Nodes.{FailKind, Failed}
+use Rattle.kn_model.specs.Reports.{StateLine, FailureLine}
+use Rattle.kn_report.specs.Forms.{GivenFits, StateFits, FailureFits}
 use Rattle.kn_report.specs.Heads.{HeadView, HeadFits, spelled_body}
-use Rattle.kn_report.specs.Texts.{mapping_text, kind_text, outcome_text, input_text, further, inputs_text, standing_text, state_body, behind_comma, behind_blank, column_text, column_word, dstate_body, reach_text, failure_body}
+use Rattle.kn_report.specs.Texts.{mapping_text, kind_text, outcome_text, input_text, standing_text, state_body, column_word, dstate_body, reach_text, failure_body}
 use Rattle.kn_report.specs.Words.{Without, BeginsWith, IsWordBehind}
-use Rattle.kn_report.proofs.Cut.{without_append, decimal_without, cut_once, decimal_below}
-use Rattle.kn_report.proofs.Blanks.{letters, mapping_without, kind_without, outcome_without, trace_without, column_without}
+use Rattle.kn_report.proofs.Cut.{decimal_without, cut_once, decimal_below}
+use Rattle.kn_report.proofs.Blanks.{mapping_without, kind_without, outcome_without, trace_without}
 
 -- a word behind a front, where a blank follows
 pub word_at : (front word rest text : List ℕ) (skip : ℕ) → length front ≡ skip → Without 32 word → BeginsWith 32 rest → text ≡ front ++ (word ++ rest) → IsWordBehind text skip word rest

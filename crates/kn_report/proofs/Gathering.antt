@@ -1,6 +1,5 @@
 -- Items that are read one behind another.
 use Rattle.std.proofs.Common.{◌≡◌, ℕ, suc, ◌+◌, ◌≤◌, ◌⊎◌, inl, inr, List, [], ◌∷◌, ◌++◌, length, refl, ap, sym, subst, ◌∙◌, arith, append_assoc, append-nil, length-append}
-use Rattle.std.specs.Prelude.{Some, None}
 use Rattle.kn_report.specs.Texts.{numbered_from}
 use Rattle.kn_report.specs.Words.{IsItemRead, AllFrom, AreRead}
 

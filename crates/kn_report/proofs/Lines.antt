@@ -1,6 +1,6 @@
 -- The line at the front of a text.
-use Rattle.std.proofs.Common.{◌≡◌, ℕ, ◌+◌, ◌≤◌, List, [], ◌∷◌, ◌++◌, length, take, refl, ap, sym, subst, ◌∙◌, arith, append_assoc, length-append}
-use Rattle.std.specs.Prelude.{Some, None, codes, Option}
+use Rattle.std.proofs.Common.{◌≡◌, ℕ, ◌+◌, ◌≤◌, List, ◌∷◌, ◌++◌, length, take, refl, ap, sym, subst, ◌∙◌, arith, append_assoc, length-append}
+use Rattle.std.specs.Prelude.{Some, None, codes}
 use Rattle.std.proofs.Math.Seq.{take-append_seam}
 use Rattle.kn_report.specs.Words.{Without, BeginsWith, IsItemRead}
 use Rattle.kn_report.proofs.Cut.{cut_once, same_rest, some_is, none_is}

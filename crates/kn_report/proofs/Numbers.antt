@@ -1,5 +1,5 @@
 -- Numbers, columns and entries of a line, one behind another.
-use Rattle.std.proofs.Common.{◌≡◌, ◌≢◌, ℕ, ◌<◌, ◌^◌, ◌+◌, true, false, ◌⊎◌, inl, inr, List, [], ◌∷◌, ◌++◌, map, length, refl, ap, sym, subst, ◌∙◌, arith, append_assoc, append-nil}
+use Rattle.std.proofs.Common.{◌≡◌, ◌≢◌, ℕ, ◌<◌, ◌^◌, ◌+◌, inl, inr, List, [], ◌∷◌, ◌++◌, length, refl, ap, sym, subst, ◌∙◌, arith, append_assoc, append-nil}
 use Rattle.std.specs.Prelude.{codes, flat_map, Vec}
 use Rattle.std.specs.declared.alloc.Global.{Global}
 use Rattle.std.specs.Fmt.{decimal}
@@ -8,7 +8,7 @@ use Rattle.std.specs.Str.Parse.{AllDigits}
 use Rattle.std.proofs.lemmas.Bool.{ne_eqb}
 use Rattle.std.proofs.lemmas.Str.Parse.{digit_from_value}
 use Rattle.std.proofs.lemmas.List.Concat.{flat_map-cons}
-use Rattle.kn_term.specs.Valuations.{precedes, with_word, entered, AreEntries, Precedes}
+use Rattle.kn_term.specs.Valuations.{with_word, AreEntries, Precedes}
 use Rattle.kn_model.specs.Terms.{Given, Valuation}
 use Rattle.kn_cond.specs.declared.standing.Standing.{Standing}
 use Rattle.kn_cond.specs.declared.standing.Standing.TheVariants.{Inputs, Open}

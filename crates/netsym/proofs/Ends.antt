@@ -11,7 +11,6 @@ use Rattle.kn_model.specs.Limits.{Limit, IsOverCopied}
 use Rattle.kn_report.specs.declared.status.Status.{Status}
 use Rattle.kn_report.specs.declared.status.Status.TheVariants as statuses
 use Rattle.kn_report.specs.Texts.{reached_in, open_in}
-use Rattle.kn_report.specs.Statuses.{status_in}
 use Rattle.kn_plan.specs.Files.{File}
 use Rattle.kn_netfile.specs.Faults.{Fault, everywhere}
 use Rattle.kn_netfile.specs.Reading.{file_of}

@@ -1,5 +1,5 @@
 -- A text that is written line by line.
-use Rattle.std.proofs.Common.{◌≡◌, ℕ, List, ◌++◌, take, drop, sym, ap, ◌∙◌, append_assoc, Option}
+use Rattle.std.proofs.Common.{ℕ, List, ◌++◌, take, drop, sym, ap, ◌∙◌, append_assoc, Option}
 use Rattle.std.proofs.lemmas.List.{take-append-drop}
 use Rattle.kn_io.proofs.Known.{Appends-then}
 use Rattle.kn_io.specs.Writing.{TakesFront}

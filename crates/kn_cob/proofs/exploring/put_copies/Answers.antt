@@ -1,10 +1,10 @@
-use Rattle.std.proofs.Common.{◌≡◌, ◌≤◌, ◌∷◌, [], ◌++◌, false, true, List, length, map, sym, subst, ◌∙◌, arith, rules}
-use Rattle.std.specs.Prelude.{IfErr, is_some}
+use Rattle.std.proofs.Common.{◌++◌, false, true, List, sym, subst, ◌∙◌, arith, rules}
+use Rattle.std.specs.Prelude.{IfErr}
 use Rattle.kn_model.specs.Terms.{terms}
 use Rattle.kn_model.specs.Scenarios.{copies}
 use Rattle.kn_node.specs.Due as kept
 use Rattle.kn_cob.specs.Nodes.{NodeView}
-use Rattle.kn_cob.specs.Copies.{AreCopies, node_in, along}
+use Rattle.kn_cob.specs.Copies.{AreCopies, node_in}
 use Rattle.kn_cob.specs.Ticks.{StopsIn, StopsAt}
 use Rattle.kn_cob.proofs.Paths.{ready}
 use Rattle.kn_cob.proofs.Turning.{many_nodes, node_inside, err_weaker, idle, idle_copies, kept_idle, busy, stops_over, kept_along}

@@ -1,6 +1,5 @@
-use Rattle.std.proofs.Common.{◌≡◌, ◌+◌, ◌++◌, ◌∷◌, [], List, Option, Some, None, sym, subst, ◌∙◌, ap, inl}
+use Rattle.std.proofs.Common.{◌+◌, ◌++◌, ◌∷◌, [], List, sym, subst}
 use Rattle.std.specs.List.{AllByRecursion}
-use Rattle.std.proofs.lemmas.List.{append-nil}
 use Rattle.kn_model.specs.Scenarios.{close}
 use Rattle.kn_model.proofs.Lists.{all-append}
 use Rattle.kn_cob.specs.Nodes.{NodeView}

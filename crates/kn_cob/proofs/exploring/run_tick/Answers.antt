@@ -12,5 +12,5 @@ loop-node-init g c = record {
 
 pub returns-clause-given : goal.returns-clause-given
 returns-clause-given g c =
-    let all : c.loop-node.node ≡ length c.args.net.now.network.nodes = omega (arith, c.loop-node-test.false, c.loop-node.auto.node-end, c.node_count-node-end.ensures) in
+    let all : c.loop-node.node ≡ length c.args.net.now.network.nodes = omega (arith, c.loop-node-test.false, c.loop-node.auto.node-end, c.node_count-node-end.ensures.count) in
     subst (λ (n : ℕ). AreCopies c.args.net.now.network c.args.tick c.loop-node.list.items (so_far c.args.net.now.network c.args.tick n)) all c.loop-node.invariant.made

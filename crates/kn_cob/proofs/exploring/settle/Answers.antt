@@ -1,4 +1,4 @@
-use Rattle.std.proofs.Common.{◌≡◌, ◌++◌, ◌∷◌, [], List, sym, subst, ◌∙◌, ap}
+use Rattle.std.proofs.Common.{◌++◌, List, sym, subst, ◌∙◌}
 use Rattle.kn_model.specs.Terms.{terms}
 use Rattle.kn_model.specs.Scenarios.{settled}
 use Rattle.kn_cob.specs.Nodes.{NodeView}

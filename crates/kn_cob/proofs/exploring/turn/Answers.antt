@@ -1,8 +1,7 @@
 use Rattle.std.proofs.Common.{◌≡◌, ◌++◌, ◌∷◌, [], ◌<◌, List, length, flat_map, sym, subst, ◌∙◌, ap, rules, append_assoc, append-nil}
-use Rattle.kn_model.specs.Terms.{Term, terms}
-use Rattle.kn_model.specs.Scenarios.{Scenario, copies, turns}
+use Rattle.kn_model.specs.Terms.{terms}
+use Rattle.kn_model.specs.Scenarios.{copies, turns}
 use Rattle.kn_cob.specs.Nodes.{NodeView}
-use Rattle.kn_cob.specs.Copies.{AreCopies}
 use Rattle.std.proofs.lemmas.List.{nil_from_length}
 use Rattle.kn_cob.proofs.Lost.{copies_lost}
 use Rattle.kn_cob.proofs.Looping.{Halfway, at_start, at_next, stepped, at_end}

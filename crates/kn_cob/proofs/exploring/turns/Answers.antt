@@ -1,11 +1,10 @@
-use Rattle.std.proofs.Common.{◌≡◌, ◌≤◌, ◌+◌, ◌++◌, ◌∷◌, [], ℕ, Bool, true, false, List, flat_map, sym, subst, ◌∙◌, ap, arith, inl}
+use Rattle.std.proofs.Common.{◌≡◌, ◌+◌, ◌++◌, ◌∷◌, [], true, false, List, sym, subst, ◌∙◌, ap, arith, inl}
 use Rattle.std.specs.List.{AllByRecursion}
-use Rattle.kn_model.specs.Terms.{Term, terms}
-use Rattle.kn_model.specs.Scenarios.{Scenario, copies, turns}
+use Rattle.kn_model.specs.Terms.{terms}
+use Rattle.kn_model.specs.Scenarios.{turns}
 use Rattle.kn_cob.specs.Nodes.{NodeView}
 use Rattle.kn_cob.specs.Copies.{AreCopies}
 use Rattle.kn_cob.specs.Ticks.{some_due}
-use Rattle.kn_cob.proofs.Ticks.{turns_last}
 use Rattle.kn_cob.proofs.Turning.{next_turn, long_copies, still_settled, some_left, one_turned}
 use Rattle.kn_cob.proofs.exploring.turns.Goals as goal
 

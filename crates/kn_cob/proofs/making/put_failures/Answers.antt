@@ -1,5 +1,5 @@
 -- The lines are those of the failed states.
-use Rattle.std.proofs.Common.{ℕ, map, length, ap, sym, ◌∙◌}
+use Rattle.std.proofs.Common.{ℕ, map, ap, sym, ◌∙◌}
 use Rattle.std.proofs.lemmas.Result.{on_ok_weaker}
 use Rattle.kn_cob.specs.Reports.{numbers, reach_by, reached_at}
 use Rattle.kn_cob.proofs.Reporting.{failures_are}

@@ -1,5 +1,5 @@
 -- The report is one of the scenarios of the run.
-use Rattle.std.proofs.Common.{◌≡◌, ◌≤◌, List, length, ap, sym, subst, ◌∙◌, arith}
+use Rattle.std.proofs.Common.{◌≤◌, List, length, ap, sym, subst, ◌∙◌, arith}
 use Rattle.std.proofs.lemmas.Result.{IfOk-weaker}
 use Rattle.kn_node.specs.Views.{ConfigView}
 use Rattle.kn_model.specs.Reports.{Report, Gives}

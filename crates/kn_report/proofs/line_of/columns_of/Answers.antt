@@ -1,5 +1,5 @@
 -- The next column, or the end.
-use Rattle.std.proofs.Common.{◌≡◌, ◌∷◌, ◌++◌, [], List, ℕ, ap, sym, subst, ◌∙◌}
+use Rattle.std.proofs.Common.{◌∷◌, List, ℕ, ap, sym, subst}
 use Rattle.std.specs.Prelude.{Some, Vec}
 use Rattle.std.specs.declared.alloc.Global.{Global}
 use Rattle.kn_report.specs.Words.{Reads}

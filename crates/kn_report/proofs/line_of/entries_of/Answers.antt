@@ -1,5 +1,5 @@
 -- The next entry, or the end.
-use Rattle.std.proofs.Common.{◌≡◌, ◌∷◌, ◌++◌, [], List, ap, sym, subst, ◌∙◌}
+use Rattle.std.proofs.Common.{ap, sym, subst, ◌∙◌}
 use Rattle.std.specs.Prelude.{Some}
 use Rattle.kn_term.specs.Terms.{Valuation}
 use Rattle.kn_report.proofs.Cut.{none_is}

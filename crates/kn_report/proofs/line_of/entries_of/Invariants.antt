@@ -1,5 +1,5 @@
 -- The entries that are left.
-use Rattle.std.proofs.Common.{◌≡◌, List, length}
+use Rattle.std.proofs.Common.{◌≡◌, length}
 use Rattle.std.specs.Prelude.{flat_map}
 use Rattle.kn_term.specs.Terms.{Valuation}
 use Rattle.kn_report.specs.Forms.{InputsFit}

@@ -1,9 +1,9 @@
 -- None, or some.
-use Rattle.std.proofs.Common.{◌≡◌, ◌∷◌, [], true, false, ap, sym, ◌∙◌}
+use Rattle.std.proofs.Common.{◌≡◌, true, ap, ◌∙◌}
 use Rattle.std.specs.Prelude.{Some, codes}
 use Rattle.std.proofs.lemmas.Bool.Decides.{Decides-eqb}
 use Rattle.std.proofs.lemmas.Slice.Eq.{slice_eq-Decides}
-use Rattle.kn_report.proofs.Numbers.{no_inputs, some_inputs}
+use Rattle.kn_report.proofs.Numbers.{no_inputs}
 use Rattle.kn_report.proofs.line_of.inputs_of.Goals as goal
 
 pub returns-then-eq : goal.returns-then-eq

@@ -1,8 +1,7 @@
 -- The dstate, the pick and the inputs.
-use Rattle.std.proofs.Common.{◌≡◌, ◌∷◌, ◌++◌, [], List, ℕ, inr, refl, ap, sym, subst, ◌∙◌}
-use Rattle.std.specs.Prelude.{codes, flat_map, decimal, Option}
-use Rattle.kn_model.specs.Reports.{Reach, At}
-use Rattle.kn_report.specs.declared.report.Reached.{Reached}
+use Rattle.std.proofs.Common.{◌∷◌, ◌++◌, List, ℕ, inr, refl, ap, subst, ◌∙◌}
+use Rattle.std.specs.Prelude.{codes, flat_map, decimal}
+use Rattle.kn_model.specs.Reports.{At}
 use Rattle.kn_report.specs.Texts.{behind_blank, inputs_text}
 use Rattle.kn_report.specs.Views.{reach_of}
 use Rattle.kn_report.specs.Words.{Reads}

@@ -1,9 +1,8 @@
 -- The head, the failed states and the end.
-use Rattle.std.proofs.Common.{◌≡◌, ◌+◌, ◌<◌, ◌≤◌, ◌∷◌, ◌++◌, [], List, ℕ, length, refl, sym, ap, ◌∙◌, arith}
+use Rattle.std.proofs.Common.{◌+◌, ℕ, ap, arith}
 use Rattle.std.proofs.lemmas.Result.{IfOk-weaker}
 use Rattle.kn_report.specs.Reading.{IsEnded, IsReadOf}
 use Rattle.kn_report.specs.Sections.{AreSections}
-use Rattle.kn_report.specs.Texts.{line_count}
 use Rattle.kn_report.proofs.Assembly.{fault_first}
 use Rattle.kn_report.proofs.Ending.{fault_left, form_of, ended_of}
 use Rattle.kn_report.proofs.reading.read_bytes.Goals as goal

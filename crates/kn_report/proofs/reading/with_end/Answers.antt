@@ -1,5 +1,5 @@
 -- Whether the last line is the rest.
-use Rattle.std.proofs.Common.{◌≡◌, ◌∷◌, ◌++◌, [], List, ℕ, length, refl, sym, ◌∙◌}
+use Rattle.std.proofs.Common.{length, refl, sym, ◌∙◌}
 use Rattle.std.proofs.lemmas.Bool.{eqb-true, eqb-false}
 use Rattle.kn_report.specs.Texts.{end_text}
 use Rattle.kn_report.proofs.Ending.{end_missing, end_more, end_alone}

@@ -1,6 +1,5 @@
 -- The dstate that the first line spells, where it is spelled as it stands and its columns are right.
-use Rattle.std.proofs.Common.{◌≡◌, ◌∷◌, ◌++◌, List, ℕ, true, false, sym, ◌∙◌}
-use Rattle.std.specs.Prelude.{Some}
+use Rattle.std.proofs.Common.{◌≡◌, true, false, sym, ◌∙◌}
 use Rattle.kn_report.specs.Sections.{IsDstate}
 use Rattle.kn_report.specs.Texts.{dstate_body, dstate_text}
 use Rattle.kn_report.proofs.Blanks.{dstate_without}

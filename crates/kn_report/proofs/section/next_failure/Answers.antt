@@ -1,8 +1,6 @@
 -- The failure line that the first line spells, where it is spelled as it stands and its pick is right.
-use Rattle.std.proofs.Common.{◌≡◌, ◌∷◌, ◌++◌, List, ℕ, true, false, sym, ◌∙◌}
-use Rattle.std.specs.Prelude.{Some}
-use Rattle.kn_report.specs.Sections.{IsFailureOf}
-use Rattle.kn_report.specs.Texts.{failure_body, failure_text}
+use Rattle.std.proofs.Common.{true, false, sym, ◌∙◌}
+use Rattle.kn_report.specs.Texts.{failure_body}
 use Rattle.kn_report.specs.Views.{reach_of}
 use Rattle.kn_report.proofs.Failures.{failure_none, failure_other, failure_unfit, failure_item}
 use Rattle.kn_report.proofs.Stripped.{stripped, not_stripped, shorter}

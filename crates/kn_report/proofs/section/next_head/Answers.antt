@@ -1,6 +1,5 @@
 -- The head that the first line spells, where it is spelled as it stands.
-use Rattle.std.proofs.Common.{◌≡◌, ◌∷◌, ◌++◌, List, ℕ, sym, ◌∙◌}
-use Rattle.std.specs.Prelude.{Some}
+use Rattle.std.proofs.Common.{sym, ◌∙◌}
 use Rattle.kn_report.specs.Heads.{HeadFits, spelled_body, spelled_head}
 use Rattle.kn_report.proofs.Blanks.{head_without}
 use Rattle.kn_report.proofs.Lines.{line_of_none, line_of_other, line_of_item}

@@ -1,7 +1,5 @@
 -- The state that the first line spells, where it is spelled as it stands.
-use Rattle.std.proofs.Common.{◌≡◌, ◌∷◌, ◌++◌, List, ℕ, sym, ◌∙◌}
-use Rattle.std.specs.Prelude.{Some}
-use Rattle.kn_model.specs.Reports.{StateLine}
+use Rattle.std.proofs.Common.{sym, ◌∙◌}
 use Rattle.kn_report.specs.Forms.{StateFits}
 use Rattle.kn_report.specs.Texts.{state_body, state_text}
 use Rattle.kn_report.proofs.Blanks.{state_without}

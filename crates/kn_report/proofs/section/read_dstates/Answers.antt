@@ -1,5 +1,5 @@
 -- One dstate more, and none.
-use Rattle.std.proofs.Common.{rules, ◌≡◌, ◌+◌, ◌≤◌, ◌∷◌, ◌++◌, [], List, ℕ, length, subst, sym}
+use Rattle.std.proofs.Common.{rules, ◌≡◌, List, ℕ, length, subst, sym}
 use Rattle.kn_report.specs.Sections.{IsDstate}
 use Rattle.kn_report.specs.Texts.{dstate_text}
 use Rattle.kn_report.proofs.Gathering.{SoFar, one_more, all_read, few_more, item_at, none_at}

@@ -1,5 +1,5 @@
 -- One failure more, one that is not there, and no failed state.
-use Rattle.std.proofs.Common.{◌≡◌, ◌+◌, ◌≤◌, ◌∷◌, ◌++◌, [], List, ℕ, length, subst, sym, arith}
+use Rattle.std.proofs.Common.{List, length, subst, sym, arith}
 use Rattle.kn_model.specs.Reports.{FailureLine}
 use Rattle.kn_report.specs.Sections.{IsFailure, failure_at}
 use Rattle.kn_report.proofs.Gathering.{SoFar, one_more, all_read, few_more}

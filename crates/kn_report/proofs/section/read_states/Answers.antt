@@ -1,9 +1,8 @@
 -- One state more, and none.
-use Rattle.std.proofs.Common.{rules, ◌≡◌, ◌+◌, ◌≤◌, ◌∷◌, ◌++◌, [], List, ℕ, length, subst, sym}
+use Rattle.std.proofs.Common.{rules, ◌≡◌, List, length, subst, sym}
 use Rattle.kn_model.specs.Reports.{StateLine}
 use Rattle.kn_report.specs.Sections.{IsState}
 use Rattle.kn_report.specs.Texts.{state_text}
-use Rattle.kn_report.specs.Words.{IsItemRead, IsNextItem}
 use Rattle.kn_report.proofs.Gathering.{SoFar, one_more, all_read, few_more, item_at, none_at}
 use Rattle.kn_report.proofs.section.read_states.Goals as goal
 

@@ -1,5 +1,5 @@
 -- The columns written so far, and those that are left.
-use Rattle.std.proofs.Common.{◌≡◌, ◌++◌, string_bytes, flat_map, take, drop}
+use Rattle.std.proofs.Common.{◌≡◌, ◌++◌, string_bytes, flat_map, drop}
 use Rattle.kn_report.specs.Forms.{ColumnsFit}
 use Rattle.kn_report.specs.Texts.{column_word}
 use Rattle.kn_report.specs.Views.{lists_of}

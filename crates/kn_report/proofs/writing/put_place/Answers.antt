@@ -1,5 +1,4 @@
 -- The pieces of a place.
-use Rattle.std.proofs.Common.{◌++◌, ◌∙◌}
 use Rattle.std.specs.Prelude.{codes, decimal, flat_map, string_bytes}
 use Rattle.std.proofs.lemmas.Result.{on_ok_weaker}
 use Rattle.kn_report.specs.Texts.{inputs_text, behind_blank}

@@ -1,5 +1,5 @@
 -- The pieces of a state's line.
-use Rattle.std.proofs.Common.{◌≡◌, ◌++◌, subst, ◌∙◌}
+use Rattle.std.proofs.Common.{◌≡◌, subst}
 use Rattle.std.specs.Prelude.{codes, decimal, string_bytes}
 use Rattle.kn_trace.specs.Text.{text_of}
 use Rattle.kn_model.specs.Reports.{StateLine}

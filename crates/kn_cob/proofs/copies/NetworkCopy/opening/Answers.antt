@@ -1,7 +1,7 @@
-use Rattle.std.proofs.Common.{◌≡◌, ◌+◌, [], ◌∷◌, ◌++◌, List, length, map, sym, ap, subst, ◌∙◌, arith, ℕ}
+use Rattle.std.proofs.Common.{◌≡◌, ◌+◌, [], ◌∷◌, length, map, sym, ap, subst, ◌∙◌, arith, ℕ}
 use Rattle.std.specs.Arc.{arc_value}
 use Rattle.std.proofs.lemmas.List.{map-append, length-map, length-append}
-use Rattle.kn_cob.specs.Closing.{AreStarts, IsStart}
+use Rattle.kn_cob.specs.Closing.{IsStart}
 use Rattle.kn_cob.proofs.Opening.{one_more}
 use Rattle.kn_cob.proofs.copies.NetworkCopy.opening.Goals as goal
 

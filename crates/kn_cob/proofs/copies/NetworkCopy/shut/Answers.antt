@@ -1,10 +1,9 @@
-use Rattle.std.proofs.Common.{◌≡◌, ◌+◌, [], ◌∷◌, ◌++◌, List, map, take, drop, get_or, sym, ap, subst, ◌∙◌}
+use Rattle.std.proofs.Common.{◌+◌, [], ◌∷◌, ◌++◌, map, take, sym, ap, subst, ◌∙◌}
 use Rattle.std.specs.Prelude.{MatchOption}
 use Rattle.std.specs.Arc.{arc_value}
-use Rattle.std.specs.List.{AllByRecursion}
 use Rattle.std.proofs.lemmas.List.{take_more, drop_more, map-append}
 use Rattle.kn_model.specs.Alikes.{OneByOne}
-use Rattle.kn_cob.specs.Closing.{IsStanding, IsShutOut, IsClosed}
+use Rattle.kn_cob.specs.Closing.{IsShutOut, IsClosed}
 use Rattle.kn_cob.proofs.Closing.{one_closed}
 use Rattle.kn_cob.proofs.copies.NetworkCopy.shut.Goals as goal
 
