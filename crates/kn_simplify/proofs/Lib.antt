@@ -2,3 +2,4 @@ pub mod Digits
 pub mod Units
 pub mod Folding
 pub mod Simpler
+pub mod Additions

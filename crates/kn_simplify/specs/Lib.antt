@@ -1,3 +1,4 @@
 pub mod Folded
 pub mod Laws
 pub mod Simpler
+pub mod Sums

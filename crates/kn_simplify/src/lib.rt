@@ -5,6 +5,7 @@
 mod form;
 mod laws;
 mod made;
+mod sums;
 mod top;
 mod whole;
 

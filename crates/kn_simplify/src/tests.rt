@@ -275,3 +275,38 @@ fn makes_terms_that_are_simple(rt: HostRuntime) -> Result<(), Fail> {
     }
     Ok(())
 }
+
+/// The word that is added to an input by what adds or takes one word after another; None where the term is no such sum.
+#[tactic(auto, using(kn_term::proofs::Kept::kept))]
+fn added_in_all(
+    alloc: Global,
+    first: (Op, u16),
+    second: (Op, u16),
+) -> Result<Option<Node>, Memory> {
+    let mut terms = Terms::new(alloc);
+    let x = terms.input(1, 2, 16)?;
+    let y = terms.konst(first.1)?;
+    let once = apply(&mut terms, first.0, x, y)?;
+    let z = terms.konst(second.1)?;
+    let twice = apply(&mut terms, second.0, once, z)?;
+    match terms.node(twice) {
+        Node::Apply(Op::Add, base, word) if base == x => Ok(Some(terms.node(word))),
+        _ => Ok(None),
+    }
+}
+
+#[test]
+fn adds_words_at_once(rt: HostRuntime) -> Result<(), Fail> {
+    for (first, second, word) in [
+        ((Op::Add, 3), (Op::Add, 4), Some(7)),
+        ((Op::Add, 0xffff), (Op::Add, 2), Some(1)),
+        ((Op::Sub, 1), (Op::Sub, 1), Some(0xfffe)),
+        ((Op::Add, 9), (Op::Sub, 2), Some(7)),
+        ((Op::Add, 3), (Op::Sub, 3), None),
+        ((Op::Mul, 3), (Op::Add, 4), None),
+    ] {
+        let node = added_in_all(rt.alloc(), first, second)?;
+        assert!(rt; node == word.map(Node::Konst), "at {first:?} {second:?}");
+    }
+    Ok(())
+}

@@ -1,5 +1,5 @@
 -- An event that has too many paths has more live prefixes of paths than the network's limit of states.
-use Rattle.std.proofs.Common.{◌≡◌, ℕ, zero, suc, ◌+◌, ◌<◌, ◌⊎◌, inl, inr, Bool, true, false, List, [], ◌∷◌, ◌++◌, length, map, take, get_or, refl, sym, ap, subst, ◌∙◌, append-nil, length-append, arith}
+use Rattle.std.proofs.Common.{◌≡◌, ℕ, zero, suc, ◌<◌, ◌⊎◌, inl, inr, Bool, true, false, List, [], ◌∷◌, ◌++◌, length, map, take, get_or, refl, sym, ap, subst, ◌∙◌, append-nil, length-append, arith}
 use Rattle.std.specs.Prelude.{Contains}
 use Rattle.std.specs.List.{AllByRecursion}
 use Rattle.kn_packet.specs.declared.packet.Event.{Event}
@@ -12,7 +12,6 @@ use Rattle.kn_node.specs.Views.{ConfigView}
 use Rattle.kn_model.specs.Terms.{terms}
 use Rattle.kn_model.specs.Nodes.{State}
 use Rattle.kn_model.specs.Nets.{Network}
-use Rattle.kn_model.specs.Due.{due}
 use Rattle.kn_model.specs.Rows.{Way}
 use Rattle.kn_model.specs.Paths.{Path, event_paths, event_ways, here_at, first_way, begun, path_of, paths, paths_of, decided}
 use Rattle.kn_model.specs.Limits.{IsPrefix, Begins, NoneBegins}

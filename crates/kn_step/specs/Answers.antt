@@ -9,7 +9,6 @@ use Rattle.kn_cond.specs.Meanings.{condition_of}
 use Rattle.kn_packet.specs.Packets.{PacketView}
 use Rattle.kn_node.specs.Views.{ConfigView}
 use Rattle.kn_model.specs.Terms.{terms}
-use Rattle.kn_model.specs.Packets.{Packet}
 use Rattle.kn_model.specs.Nets.{Network}
 use Rattle.kn_model.specs.Due.{due}
 use Rattle.kn_model.specs.Paths.{Path, event_paths}

@@ -1,9 +1,8 @@
 -- A path through an event as it is kept.
-use Rattle.std.specs.Prelude.{◌≡◌, Bool, List, map}
-use Rattle.kn_term.specs.declared.node.Node.{Node}
+use Rattle.std.specs.Prelude.{Bool, List, map}
 use Rattle.kn_term.specs.declared.node.Literal.{Literal}
 use Rattle.kn_term.specs.Terms.{Term}
-use Rattle.kn_cond.specs.Meanings.{condition_of, StandIn}
+use Rattle.kn_cond.specs.Meanings.{condition_of}
 use Rattle.kn_packet.specs.Packets.{PacketView}
 use Rattle.kn_node.specs.Views.{ConfigView}
 use Rattle.kn_model.specs.Paths.{Path}

@@ -1,5 +1,5 @@
 -- What is kept of a node, of a packet and of a path, in the definitions' words.
-use Rattle.std.specs.Prelude.{ℕ, Bool, List, ◌++◌, map, flat_map}
+use Rattle.std.specs.Prelude.{Bool, List, ◌++◌, map, flat_map}
 use Rattle.kn_term.specs.declared.node.Node.{Node}
 use Rattle.kn_term.specs.Terms.{Term}
 use Rattle.kn_cond.specs.Conditions.{Condition}

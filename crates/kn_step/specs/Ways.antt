@@ -13,8 +13,8 @@ use Rattle.kn_cond.specs.declared.standing.Standing.{Standing}
 use Rattle.kn_packet.specs.Packets.{PacketView}
 use Rattle.kn_node.specs.Views.{MachineView}
 use Rattle.kn_model.specs.Rows.{Way}
-use Rattle.kn_model.specs.Alikes.{ConditionAlike, TermAlike, Alike}
-use Rattle.kn_model.proofs.AlikeRows.{WayAlike, EffectAlike}
+use Rattle.kn_model.specs.Alikes.{ConditionAlike, TermAlike}
+use Rattle.kn_model.proofs.AlikeRows.{WayAlike}
 use Rattle.kn_step.specs.Views.{packet_of, state_with}
 
 -- The machine, the terms that all is over, what is known so far and of the inputs that meet it, how many literals of it

@@ -106,13 +106,14 @@ fn run_from<J: Judge>(
     comes_later(net);
     c.machine.sizes();
     let alloc = *net.links.allocator();
+    let links = links_of(alloc, net, c.node)?;
     let mut config = c.copy()?;
     let mail = begin(event, tick, &mut config.machine);
     let spot = Spot {
         node: c.node,
         history: c.history,
         tick,
-        links: links_of(alloc, net, c.node)?,
+        links,
         mail,
     };
     let mut way = Way::new(alloc, config);

@@ -1,7 +1,8 @@
 //! All ways through a handler.
 
-ghost use Rattle.std.specs.Prelude.{◌≡◌, ◌<◌, ◌≤◌, ◌++◌, ◌∷◌, [], map, length, ℕ, List, true, false, IfOk, OnOk};
+ghost use Rattle.std.specs.Prelude.{◌≡◌, ◌<◌, ◌≤◌, ◌++◌, ◌∷◌, [], map, length, ℕ, List, true, false, Some, IfOk, OnOk};
 ghost use Rattle.kn_term.specs.Terms.{Term};
+ghost use Rattle.kn_cond.specs.Literals.{negated};
 ghost use Rattle.kn_cond.specs.Meanings.{literal_of};
 ghost use Rattle.kn_model.specs.Terms.{terms};
 ghost use Rattle.kn_model.specs.Paths.{Path as PathOf, decided, path_of};
@@ -264,17 +265,51 @@ fn both_sides(net: &Net, spot: &Spot, split: Split, way: Way) -> Result<(Way, Wa
         second,
     } = split;
     let mut way = way;
-    way.freeze()?;
-    let mut other = way.copy()?;
-    go(net, spot, instr, false, literal, Some(first), &mut other)?;
-    go(
-        net,
-        spot,
-        instr,
-        true,
-        negated(literal),
-        Some(second),
-        &mut way,
-    )?;
-    Ok((other, way))
+    let one = first_side(net, spot, instr, literal, first, &mut way)?;
+    let other = second_side(net, spot, instr, literal, second, way)?;
+    Ok((one, other))
+}
+
+/// A way on where the literal of a decision holds, beside the way itself, which shares its terms. Err is want of memory.
+fn first_side(
+    net: &Net,
+    spot: &Spot,
+    instr: Instr,
+    literal: Literal,
+    further: Standing,
+    way: &mut Way,
+) -> Result<Way, AllocError>
+    requires place { IsIn net.now.network spot.now }
+    requires at { IsAtDecision net.now.network spot.now instr literal way.old }
+    requires further { IsFurther net.now.network.limits.conflicts (known_of way.old) (literal_of way.old.terms literal) (Some further) }
+    requires sound { IsSound net.now.network.limits.conflicts way.old }
+    ensures same { way.new ≡ way.old }
+    ensures way { IfOk result (λ w. AlikeWay (way_of w) (sided (here_of net.now.network spot.now) instr false literal way.old)) }
+    ensures on { IfOk result (λ w. IsOn net.now.network spot.now way.old w) }
+{
+    let mut side = way.fork()?;
+    go(net, spot, instr, false, literal, Some(further), &mut side)?;
+    Ok(side)
+}
+
+/// A way on where the literal of a decision does not hold. Err is want of memory.
+fn second_side(
+    net: &Net,
+    spot: &Spot,
+    instr: Instr,
+    literal: Literal,
+    further: Standing,
+    way: Way,
+) -> Result<Way, AllocError>
+    requires place { IsIn net.now.network spot.now }
+    requires at { IsAtDecision net.now.network spot.now instr literal way }
+    requires further { IsFurther net.now.network.limits.conflicts (known_of way) (negated (literal_of way.terms literal)) (Some further) }
+    requires sound { IsSound net.now.network.limits.conflicts way }
+    ensures way { IfOk result (λ w. AlikeWay (way_of w) (sided (here_of net.now.network spot.now) instr true literal way)) }
+    ensures on { IfOk result (λ w. IsOn net.now.network spot.now way w) }
+{
+    let mut way = way;
+    let opposite = negated(literal);
+    go(net, spot, instr, true, opposite, Some(further), &mut way)?;
+    Ok(way)
 }

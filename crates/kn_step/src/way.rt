@@ -85,18 +85,28 @@ impl Way {
     pub fn copy(&self) -> Result<Way, AllocError>
         ensures { IfOk result (λ w. w ≡ self.now) }
     {
+        // What takes least to let go of comes first, as the check has to look at what is let go of where memory is wanting.
         Ok(Way {
-            machine: self.machine.copy()?,
-            terms: self.terms.copy()?,
-            cond: self.cond.copy()?,
-            standing: self.standing.copy()?,
             own: self.own,
-            trace: self.trace.copy()?,
             pc: self.pc,
             bits: self.bits.copy()?,
+            trace: self.trace.copy()?,
             literals: self.literals.copy()?,
+            cond: self.cond.copy()?,
+            standing: self.standing.copy()?,
+            terms: self.terms.copy()?,
             sends: copy_packets(*self.sends.allocator(), &self.sends)?,
+            machine: self.machine.copy()?,
         })
+    }
+
+    /// An equal way; all terms are shared by both. Err is want of memory.
+    pub fn fork(&mut self) -> Result<Way, AllocError>
+        ensures fork { IfOk result (λ w. w ≡ self.old) }
+        ensures same { self.new ≡ self.old }
+    {
+        self.freeze()?;
+        self.copy()
     }
 
     /// A word as a term.
@@ -230,7 +240,7 @@ impl Way {
         self.machine.outcome == Outcome::Running
     }
 
-    /// The path of a way that has ended. Err is want of memory.
+    /// The path of a way that has ended. Copies of its state share all terms. Err is want of memory.
     pub fn finish(self, node: u32, history: usize) -> Result<Path, AllocError>
         ensures path { IfOk result (λ p. AlikePath (path_seen p) (path_of terms (way_of self))) }
         ensures own { IfOk result (λ p. own_of p.config ≡ known_of self) }
@@ -239,6 +249,8 @@ impl Way {
         ensures history { IfOk result (λ p. p.config.history ≡ history) }
         ensures sends { IfOk result (λ p. p.sends ≡ self.sends) }
     {
+        let mut way = self;
+        way.freeze()?;
         let Way {
             machine,
             terms,
@@ -249,7 +261,7 @@ impl Way {
             literals,
             sends,
             ..
-        } = self;
+        } = way;
         let mut trace = trace;
         trace.extend(&bits)?;
         Ok(Path {

@@ -60,8 +60,8 @@ run-requires-clause-place g c =
     let j = c.config.inside in
     let k : ConfigView = record { node = j.node; machine = j.machine; terms = j.terms; cond = j.cond; trace = j.trace; history = j.history; standing = j.standing } in
     let copied : k ≡ now = c.config.view_is ∙ c.in_ok-config.ensures in
-    let spot : Spot = record { node = i.node; history = i.history; tick = tick; links = c.in_ok-links_of.field-0; mail = c.begin-mail.result } in
-    place_in c.args.net.now spot tick now v k e c.bounds.ensures c.comes_later.ensures c.c.view_is copied c.requires.ready refl refl c.in_ok-links_of.ensures c.begin-mail.ensures.mail
+    let spot : Spot = record { node = i.node; history = i.history; tick = tick; links = c.in_ok-links.links; mail = c.begin-mail.result } in
+    place_in c.args.net.now spot tick now v k e c.bounds.ensures c.comes_later.ensures c.c.view_is copied c.requires.ready refl refl c.in_ok-links.ensures c.begin-mail.ensures.mail
 
 pub run-requires-clause-stamps : goal.run-requires-clause-stamps
 run-requires-clause-stamps g c =
@@ -78,7 +78,7 @@ returns-in-Some-clause-run g c =
     let j = c.config.inside in
     let k : ConfigView = record { node = j.node; machine = j.machine; terms = j.terms; cond = j.cond; trace = j.trace; history = j.history; standing = j.standing } in
     let copied : k ≡ now = c.config.view_is ∙ c.in_ok-config.ensures in
-    let spot : Spot = record { node = i.node; history = i.history; tick = tick; links = c.in_ok-links_of.field-0; mail = c.begin-mail.result } in
+    let spot : Spot = record { node = i.node; history = i.history; tick = tick; links = c.in_ok-links.links; mail = c.begin-mail.result } in
     let plain : IsPlainEvent e = plain_at net tick now v e c.c.view_is c.requires.ready c.requires.due c.sizes.ensures.all_timers in
     let same : k ≡ v = copied ∙ sym c.c.view_is in
     let mail : mail_of c.begin-mail.result ≡ mail_in terms e tick (state_of v) = mail_of_equal tick e v k c.begin-mail.result same c.begin-mail.ensures.mail in
@@ -86,7 +86,7 @@ returns-in-Some-clause-run g c =
     let found = c.in-Some.ensures.value ∙ (ap (λ (p : Code). slice_index_or p.handlers c.handler_of-handler.result None) c.program_of.ensures.value ∙ ap (λ (h : ℕ). slice_index_or (code_of net i.node).handlers h None) c.handler_of-handler.ensures.number) in
     let w = way_of c.jump.new.self in
     let fuel = c.net.inside.limits.fuel in
-    let paths : paths_from net tick e now ≡ onward (here_of net spot) fuel w = entry_from net spot tick now v e w c.c.view_is refl refl c.requires.ready plain c.requires.due c.in_ok-links_of.ensures mail c.in-Some.entry fuel (ap (λ (f : File). f.network.limits.fuel) c.net.view_is) (sym found) (c.jump.ensures.way ∙ ap (λ (u : Way Term). jump terms u c.in-Some.entry) first) in
+    let paths : paths_from net tick e now ≡ onward (here_of net spot) fuel w = entry_from net spot tick now v e w c.c.view_is refl refl c.requires.ready plain c.requires.due c.in_ok-links.ensures mail c.in-Some.entry fuel (ap (λ (f : File). f.network.limits.fuel) c.net.view_is) (sym found) (c.jump.ensures.way ∙ ap (λ (u : Way Term). jump terms u c.in-Some.entry) first) in
     run_from_none net tick now v e c.args.out.now.items c.run.new.out.items (onward (here_of net spot) fuel w) c.c.view_is c.requires.none c.requires.due paths c.run.result
     (c.run.ensures.given []) c.run.ensures.kept c.run.ensures.few
 
@@ -101,7 +101,7 @@ returns-in-Some-clause-many g c =
     let j = c.config.inside in
     let k : ConfigView = record { node = j.node; machine = j.machine; terms = j.terms; cond = j.cond; trace = j.trace; history = j.history; standing = j.standing } in
     let copied : k ≡ now = c.config.view_is ∙ c.in_ok-config.ensures in
-    let spot : Spot = record { node = i.node; history = i.history; tick = tick; links = c.in_ok-links_of.field-0; mail = c.begin-mail.result } in
+    let spot : Spot = record { node = i.node; history = i.history; tick = tick; links = c.in_ok-links.links; mail = c.begin-mail.result } in
     let plain : IsPlainEvent e = plain_at net tick now v e c.c.view_is c.requires.ready c.requires.due c.sizes.ensures.all_timers in
     let same : k ≡ v = copied ∙ sym c.c.view_is in
     let mail : mail_of c.begin-mail.result ≡ mail_in terms e tick (state_of v) = mail_of_equal tick e v k c.begin-mail.result same c.begin-mail.ensures.mail in
@@ -109,7 +109,7 @@ returns-in-Some-clause-many g c =
     let found = c.in-Some.ensures.value ∙ (ap (λ (p : Code). slice_index_or p.handlers c.handler_of-handler.result None) c.program_of.ensures.value ∙ ap (λ (h : ℕ). slice_index_or (code_of net i.node).handlers h None) c.handler_of-handler.ensures.number) in
     let w = way_of c.jump.new.self in
     let fuel = c.net.inside.limits.fuel in
-    let paths : paths_from net tick e now ≡ onward (here_of net spot) fuel w = entry_from net spot tick now v e w c.c.view_is refl refl c.requires.ready plain c.requires.due c.in_ok-links_of.ensures mail c.in-Some.entry fuel (ap (λ (f : File). f.network.limits.fuel) c.net.view_is) (sym found) (c.jump.ensures.way ∙ ap (λ (u : Way Term). jump terms u c.in-Some.entry) first) in
+    let paths : paths_from net tick e now ≡ onward (here_of net spot) fuel w = entry_from net spot tick now v e w c.c.view_is refl refl c.requires.ready plain c.requires.due c.in_ok-links.ensures mail c.in-Some.entry fuel (ap (λ (f : File). f.network.limits.fuel) c.net.view_is) (sym found) (c.jump.ensures.way ∙ ap (λ (u : Way Term). jump terms u c.in-Some.entry) first) in
     many_from_none net tick now v e c.args.out.now.items c.run.new.out.items (onward (here_of net spot) fuel w) c.c.view_is c.requires.none c.requires.due paths c.run.result
     (c.run.ensures.so_far []) c.run.ensures.kept c.run.ensures.many
 
@@ -127,14 +127,14 @@ returns-clause-run g c =
     let j = c.config.inside in
     let k : ConfigView = record { node = j.node; machine = j.machine; terms = j.terms; cond = j.cond; trace = j.trace; history = j.history; standing = j.standing } in
     let copied : k ≡ now = c.config.view_is ∙ c.in_ok-config.ensures in
-    let spot : Spot = record { node = i.node; history = i.history; tick = tick; links = c.in_ok-links_of.field-0; mail = c.begin-mail.result } in
+    let spot : Spot = record { node = i.node; history = i.history; tick = tick; links = c.in_ok-links.links; mail = c.begin-mail.result } in
     let plain : IsPlainEvent e = plain_at net tick now v e c.c.view_is c.requires.ready c.requires.due c.sizes.ensures.all_timers in
     let same : k ≡ v = copied ∙ sym c.c.view_is in
     let mail : mail_of c.begin-mail.result ≡ mail_in terms e tick (state_of v) = mail_of_equal tick e v k c.begin-mail.result same c.begin-mail.ensures.mail in
     let first : way_of c.new-way.result ≡ first_way terms (begun terms tick e (state_of v)) = first_begun tick e v k c.begin-mail.new.machine (way_of c.new-way.result) same c.begin-mail.ensures.state c.new-way.ensures.way in
     let found = c.in-None.ensures.value ∙ (ap (λ (p : Code). slice_index_or p.handlers c.handler_of-handler.result None) c.program_of.ensures.value ∙ ap (λ (h : ℕ). slice_index_or (code_of net i.node).handlers h None) c.handler_of-handler.ensures.number) in
     let w = way_of c.new-way.result in
-    let paths : paths_from net tick e now ≡ path_of terms w ∷ [] = absent_from net spot tick now v e w c.c.view_is refl refl c.requires.ready plain c.requires.due c.in_ok-links_of.ensures mail (sym found) first in
+    let paths : paths_from net tick e now ≡ path_of terms w ∷ [] = absent_from net spot tick now v e w c.c.view_is refl refl c.requires.ready plain c.requires.due c.in_ok-links.ensures mail (sym found) first in
     run_from_none net tick now v e c.args.out.now.items c.give.new.out.items (path_of terms w ∷ []) c.c.view_is c.requires.none c.requires.due paths c.give.result
     (λ start. given_ok c.give.result (map path_seen c.give.new.out.items) (path_of terms w ∷ []) (c.give.ensures.given [] (path_of terms w ∷ []) start (λ ps x. x))) c.give.ensures.kept c.give.ensures.few
 
@@ -149,13 +149,13 @@ returns-clause-many g c =
     let j = c.config.inside in
     let k : ConfigView = record { node = j.node; machine = j.machine; terms = j.terms; cond = j.cond; trace = j.trace; history = j.history; standing = j.standing } in
     let copied : k ≡ now = c.config.view_is ∙ c.in_ok-config.ensures in
-    let spot : Spot = record { node = i.node; history = i.history; tick = tick; links = c.in_ok-links_of.field-0; mail = c.begin-mail.result } in
+    let spot : Spot = record { node = i.node; history = i.history; tick = tick; links = c.in_ok-links.links; mail = c.begin-mail.result } in
     let plain : IsPlainEvent e = plain_at net tick now v e c.c.view_is c.requires.ready c.requires.due c.sizes.ensures.all_timers in
     let same : k ≡ v = copied ∙ sym c.c.view_is in
     let mail : mail_of c.begin-mail.result ≡ mail_in terms e tick (state_of v) = mail_of_equal tick e v k c.begin-mail.result same c.begin-mail.ensures.mail in
     let first : way_of c.new-way.result ≡ first_way terms (begun terms tick e (state_of v)) = first_begun tick e v k c.begin-mail.new.machine (way_of c.new-way.result) same c.begin-mail.ensures.state c.new-way.ensures.way in
     let found = c.in-None.ensures.value ∙ (ap (λ (p : Code). slice_index_or p.handlers c.handler_of-handler.result None) c.program_of.ensures.value ∙ ap (λ (h : ℕ). slice_index_or (code_of net i.node).handlers h None) c.handler_of-handler.ensures.number) in
     let w = way_of c.new-way.result in
-    let paths : paths_from net tick e now ≡ path_of terms w ∷ [] = absent_from net spot tick now v e w c.c.view_is refl refl c.requires.ready plain c.requires.due c.in_ok-links_of.ensures mail (sym found) first in
+    let paths : paths_from net tick e now ≡ path_of terms w ∷ [] = absent_from net spot tick now v e w c.c.view_is refl refl c.requires.ready plain c.requires.due c.in_ok-links.ensures mail (sym found) first in
     many_from_none net tick now v e c.args.out.now.items c.give.new.out.items (path_of terms w ∷ []) c.c.view_is c.requires.none c.requires.due paths c.give.result
     (λ start. given_many c.give.result (map path_seen c.give.new.out.items) (path_of terms w ∷ []) (c.give.ensures.given [] (path_of terms w ∷ []) start (λ ps x. x))) c.give.ensures.kept c.give.ensures.many
