@@ -22,3 +22,4 @@ pub mod Joint
 pub mod Failing
 pub mod Reporting
 pub mod Formed
+pub mod Idle

@@ -1,7 +1,6 @@
 -- Copies at their start, and when a tick is closed.
 use Rattle.std.specs.Prelude.{◌≡◌, ◌⊎◌, ℕ, ◌+◌, ◌<◌, List, [], ◌∷◌, length, map, Option, Some, None}
 use Rattle.std.specs.List.{AllByRecursion}
-use Rattle.std.specs.Arc.{arc_value}
 use Rattle.kn_cond.specs.Conditions.{that, StandsFor}
 use Rattle.kn_node.specs.Views.{ConfigView}
 use Rattle.kn_node.specs.Opening.{IsOpened}

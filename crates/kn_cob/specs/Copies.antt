@@ -1,10 +1,8 @@
 -- Copies of the network as they are kept, and the scenarios that they are of.
-use Rattle.std.specs.Prelude.{◌≡◌, ◌⊎◌, ℕ, ◌+◌, nat_eq, List, [], ◌∷◌, ◌++◌, map, filter, length, slice_index_or, slice_set}
-use Rattle.kn_term.specs.declared.node.Ref.{Ref}
+use Rattle.std.specs.Prelude.{◌≡◌, ◌⊎◌, ℕ, ◌+◌, nat_eq, List, [], ◌∷◌, ◌++◌, filter, length, slice_index_or, slice_set}
 use Rattle.kn_term.specs.Terms.{Term}
 use Rattle.kn_cond.specs.declared.standing.Standing.TheVariants.{Inputs}
 use Rattle.kn_packet.specs.Packets.{PacketView}
-use Rattle.kn_node.specs.Views.{ConfigView}
 use Rattle.kn_node.specs.Opening.{at_start}
 use Rattle.kn_model.specs.Nodes.{Node}
 use Rattle.kn_model.specs.Nets.{Network, no_plan}

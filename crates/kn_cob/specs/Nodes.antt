@@ -1,5 +1,5 @@
 -- A node in a tick as it is kept, and the definition's node that it is of.
-use Rattle.std.specs.Prelude.{◌≡◌, ℕ, ◌<◌, List, [], ◌∷◌, length, map, flat_map}
+use Rattle.std.specs.Prelude.{◌≡◌, ℕ, ◌<◌, List, [], length, map, flat_map}
 use Rattle.std.specs.List.{AllByRecursion}
 use Rattle.kn_term.specs.Terms.{Term}
 use Rattle.kn_cond.specs.Conditions.{Condition, that, StandsFor}

@@ -1,5 +1,6 @@
 -- Where an exploration stands in a tick, and why it stops.
-use Rattle.std.specs.Prelude.{◌≡◌, ⊤, ℕ, ◌<◌, Bool, false, ◌||◌, List, [], ◌∷◌, flat_map, length, is_some, Contains}
+use Rattle.std.specs.Prelude.{◌≡◌, ⊤, ℕ, ◌<◌, Bool, false, ◌||◌, List, [], ◌∷◌, flat_map, length, is_some, None, Contains}
+use Rattle.std.specs.List.{AllByRecursion}
 use Rattle.kn_term.specs.Terms.{Term}
 use Rattle.kn_model.specs.Terms.{terms}
 use Rattle.kn_model.specs.Nets.{Network}
@@ -12,7 +13,6 @@ use Rattle.kn_node.specs.Views.{ConfigView}
 use Rattle.kn_model.specs.Alikes.{MetAt}
 use Rattle.kn_step.specs.Answers.{AreRun, AreTooMany}
 use Rattle.kn_step.specs.Paths.{PathView}
-use Rattle.kn_step.specs.declared.path.LimitAt.{LimitAt}
 use Rattle.kn_step.specs.declared.path.LimitKind.{LimitKind}
 use Rattle.kn_step.specs.declared.path.LimitKind.TheVariants as kinds
 use Rattle.kn_cob.specs.Nodes.{NodeView}
@@ -38,6 +38,14 @@ limit_of kinds.Dstates = dstates
 abbrev pub some_due : (t n : ℕ) → List (List NodeView) → Bool
 some_due t n [] = false
 some_due t n (xs ∷ list) = is_some (kept.due t (node_in xs n).config.machine) || some_due t n list
+
+-- nothing is due of any node of a copy in tick t
+abbrev pub IsIdle : ℕ → List NodeView → Type 0
+IsIdle t xs = AllByRecursion (λ (x : NodeView). kept.due t x.config.machine ≡ None) xs
+
+-- after tick 0 nothing is due in these copies before this tick
+abbrev pub AreIdleUntil : ℕ → List (List NodeView) → Type 0
+AreIdleUntil until list = (t : ℕ) → 0 < t → t < until → AllByRecursion (IsIdle t) list
 
 -- a copy that is met in tick t: the nodes before n have run, and node n some of its events
 pub record IsMetCopy (net : Network) (t n : ℕ) (xs : List NodeView) : Type 0 where

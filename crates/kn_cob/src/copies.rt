@@ -1,14 +1,15 @@
 //! Copies of the whole network.
 
-ghost use Rattle.std.specs.Prelude.{◌≡◌, ◌<◌, ◌≤◌, [], filter, nat_eq, map, length, IfOk, MatchOption, slice_set};
+ghost use Rattle.std.specs.Prelude.{◌≡◌, ℕ, ◌<◌, ◌≤◌, [], filter, nat_eq, map, length, IfOk, IsTrue, MatchOption, slice_set};
 ghost use Rattle.std.specs.List.{AllByRecursion};
 ghost use Rattle.std.specs.Arc.{arc_value};
 ghost use Rattle.kn_cob.specs.Copies.{node_in, sent_to, mailed, along};
-ghost use Rattle.kn_cob.specs.Closing.{AreOpened, IsStanding, IsShutOut, IsClosed, OnShut, configs_in};
+ghost use Rattle.kn_cob.specs.Closing.{AreOpened, AreShut, IsStanding, IsShutOut, IsClosed, OnShut, configs_in};
+ghost use Rattle.kn_cob.specs.Ticks.{IsIdle};
 
 use crate::node::{NodeNow, is_sent_to};
 use crate::run::Scenario;
-use kn_node::Config;
+use kn_node::{Config, quiet_until};
 use kn_packet::Packet;
 use kn_plan::Net;
 use kn_step::Path;
@@ -139,8 +140,34 @@ impl NetworkCopy {
     {
         let Path { config, sends, .. } = path;
         let next = self.with_config(node, config)?;
+        if sends.is_empty() {
+            return Ok(next);
+        }
         let sent = next.with_mail(&sends)?;
         Ok(sent)
+    }
+
+    /// Whether no node was sent anything in the tick.
+    pub fn is_shut(&self) -> bool
+        ensures { IsTrue result → AreShut self.now }
+    {
+        for now in &self.nodes {
+            if !now.inbox.is_empty() {
+                return false;
+            }
+        }
+        true
+    }
+
+    /// A tick up to which nothing is due of any node after tick 0; the greatest number where nothing comes.
+    pub fn quiet_until(&self) -> u32
+        ensures { (tick : ℕ) → 0 < tick → tick < result → IsIdle tick self.now }
+    {
+        let mut until = u32::MAX;
+        for now in &self.nodes {
+            until = until.min(quiet_until(&now.config));
+        }
+        until
     }
 
     /// The copy after the tick: each node closes. None only where no inputs meet what a node was sent. Err is want of

@@ -12,7 +12,7 @@ ghost use Rattle.kn_step.specs.Views.{state_of};
 ghost use Rattle.kn_step.specs.Answers.{IsReady, AreRun};
 ghost use Rattle.kn_cob.specs.Copies.{IsCopy, AreCopies, node_in, along};
 ghost use Rattle.kn_cob.specs.Closing.{AreShut, IsStanding, configs_in};
-ghost use Rattle.kn_cob.specs.Ticks.{IsMetCopy, AreTurned, IsSettling, IsRun, so_far, some_due, StopsAt, StopsIn, IsPassed};
+ghost use Rattle.kn_cob.specs.Ticks.{AreIdleUntil, IsMetCopy, AreTurned, IsSettling, IsRun, so_far, some_due, StopsAt, StopsIn, IsPassed};
 ghost use Rattle.kn_cob.specs.Runs.{IsBare, AreScenarios};
 
 use crate::copies::NetworkCopy;
@@ -233,10 +233,14 @@ fn settle_all<L: Ledger>(
     requires tick { place.tick < net.now.network.limits.ticks }
     requires node { place.node < length net.now.network.nodes }
     requires before { AreCopies net.now.network place.tick list.items (so_far net.now.network place.tick place.node) }
+    requires few { length list.items ≤ net.now.network.limits.dstates }
     ensures given { IfOk result (λ v. AreCopies net.now.network place.tick v.items (so_far net.now.network place.tick (place.node + 1))) }
     ensures few { IfOk result (λ v. length v.items ≤ net.now.network.limits.dstates) }
     ensures stop { IfErr result (StopsAt net.now.network place.tick) }
 {
+    if !is_due_in_some(place, &list) {
+        return Ok(list);
+    }
     let mut out = Vec::with_capacity(alloc, list.len())?;
     for copy in list {
         settle(alloc, net, place, copy, steps, &mut out)?;
@@ -271,12 +275,16 @@ fn run_tick<L: Ledger>(
 }
 
 /// A copy after the tick comes behind the others, unless no inputs lead to it. Err is want of memory.
-fn put_shut(net: &Net, copy: &NetworkCopy, out: &mut Vec<NetworkCopy>) -> Result<(), AllocError>
-    requires standing { AllByRecursion (IsStanding net.now.network) copy.now }
-    ensures given { (t : ℕ) (s : Scenarios Term) (before : List (Scenarios Term)) → IsCopy net.now.network t copy.now s → AreCopies net.now.network (t + 1) out.old.items before → OnOk result (AreCopies net.now.network (t + 1) out.new.items (before ++ close s ∷ [])) }
+fn put_shut(net: &Net, copy: NetworkCopy, out: &mut Vec<NetworkCopy>) -> Result<(), AllocError>
+    requires standing { AllByRecursion (IsStanding net.now.network) copy }
+    ensures given { (t : ℕ) (s : Scenarios Term) (before : List (Scenarios Term)) → IsCopy net.now.network t copy s → AreCopies net.now.network (t + 1) out.old.items before → OnOk result (AreCopies net.now.network (t + 1) out.new.items (before ++ close s ∷ [])) }
     ensures shut { AllByRecursion AreShut out.old.items → OnOk result (AllByRecursion AreShut out.new.items) }
     ensures few { OnOk result (length out.new.items ≤ length out.old.items + 1) }
 {
+    if copy.is_shut() {
+        out.push(copy)?;
+        return Ok(());
+    }
     let Some(shut) = copy.shut(net)? else {
         return Ok(());
     };
@@ -299,12 +307,23 @@ fn shut_tick(
 {
     let mut out = Vec::with_capacity(alloc, list.len())?;
     for copy in list {
-        put_shut(net, &copy, &mut out)?;
+        put_shut(net, copy, &mut out)?;
     }
     Ok(out)
 }
 
-/// The copies before the last tick's end.
+/// A tick up to which nothing is due in copies after tick 0; the greatest number where nothing comes.
+fn quiet_until(list: &[NetworkCopy]) -> u32
+    ensures { AreIdleUntil result list.now }
+{
+    let mut until = u32::MAX;
+    for copy in list {
+        until = until.min(copy.quiet_until());
+    }
+    until
+}
+
+/// The copies before the last tick's end. Ticks in which nothing is due change nothing, and are passed over.
 fn copies_at_end<L: Ledger>(
     alloc: Global,
     net: &Net,
@@ -320,9 +339,14 @@ fn copies_at_end<L: Ledger>(
     net.bounds();
     let mut list = Vec::new(alloc);
     push(NetworkCopy::opening(alloc, net)?, &mut list)?;
+    let mut quiet = 0;
     for tick in 0..net.limits.ticks {
+        if tick < quiet {
+            continue;
+        }
         let run = run_tick(alloc, net, tick, list, steps)?;
         list = shut_tick(alloc, net, tick, run)?;
+        quiet = quiet_until(&list);
     }
     Ok(list)
 }

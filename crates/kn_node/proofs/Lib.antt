@@ -1,3 +1,4 @@
 -- The lemmas on node states.
 pub mod Standing
 pub mod Equal
+pub mod Quiet

@@ -1,6 +1,6 @@
 -- Terms that stand, each at its place.
-use Rattle.std.proofs.Common.{◌≡◌, ℕ, zero, suc, ◌<◌, refl, sym, ap, subst, ◌∙◌, arith}
-use Rattle.std.specs.Prelude.{replicate, slice_get, Some, List, [], length}
+use Rattle.std.proofs.Common.{◌≡◌, ℕ, zero, suc, ◌<◌, sym, subst}
+use Rattle.std.specs.Prelude.{replicate, List, [], length}
 use Rattle.kn_term.specs.declared.node.Node.{Node}
 use Rattle.kn_term.specs.declared.node.Literal.{Literal}
 use Rattle.kn_cond.specs.Meanings.{StandIn}

@@ -1,5 +1,5 @@
 -- When `==` says of two machines, and of two node states, that they are equal.
-use Rattle.std.specs.Prelude.{ℕ, Bool, nat_eq}
+use Rattle.std.specs.Prelude.{Bool, nat_eq}
 use Rattle.std.specs.Bool.{beq}
 use Rattle.std.specs.Option.{option_eq}
 use Rattle.std.specs.Cmp.{IsPartialEquivalence, and_per, on_per, nat_eq_equiv, bool_eq_equiv, partial_equiv_from_equiv}

@@ -1,5 +1,5 @@
 -- A node state before anything has run.
-use Rattle.std.specs.Prelude.{◌≡◌, ℕ, false, List, [], replicate, None}
+use Rattle.std.specs.Prelude.{◌≡◌, ℕ, false, [], replicate, None}
 use Rattle.kn_term.specs.declared.node.Ref.{Ref}
 use Rattle.kn_term.specs.Terms.{Word}
 use Rattle.kn_term.specs.Nodes.{term_at}

@@ -1,6 +1,6 @@
 //! What a node does next in a tick.
 
-ghost use Rattle.std.specs.Prelude.{◌≡◌, ◌<◌, ◌≤◌, drop, length, List, Option, ℕ};
+ghost use Rattle.std.specs.Prelude.{◌≡◌, ◌<◌, ◌≤◌, drop, length, List, Option, None, ℕ};
 ghost use Rattle.kn_node.specs.Due.{due, mail_or_timer, has, is_set_to, timer_from};
 
 use crate::config::Config;
@@ -38,6 +38,32 @@ fn mail_or_timer(machine: &Machine, tick: u32) -> Option<Event>
         }),
         None => timer_at(&machine.timers, tick),
     }
+}
+
+/// A tick up to which nothing is due for a node after tick 0: that of the first packet or timer. It is 0 for a node that
+/// may boot again, and the greatest number where nothing comes, as for a node that ended.
+pub fn quiet_until(c: &Config) -> u32
+    ensures { (tick : ℕ) → 0 < tick → tick < result → due tick c.now.machine ≡ None }
+{
+    let machine = &c.machine;
+    if machine.outcome != Outcome::Running {
+        return u32::MAX;
+    }
+    if !machine.reboots.is_empty() {
+        return 0;
+    }
+    first_timer(&machine.timers).min(machine.queue.quiet_until())
+}
+
+/// The first tick that a timer is set to, or the greatest number where none is set.
+fn first_timer(timers: &[Option<u32>]) -> u32
+    ensures { (tick : ℕ) → tick < result → timer_from tick 0 timers.now ≡ None }
+{
+    let mut first = u32::MAX;
+    for timer in timers {
+        first = first.min(timer.unwrap_or(u32::MAX));
+    }
+    first
 }
 
 /// The lowest timer that is set to a tick.

@@ -7,7 +7,7 @@ mod machine;
 mod opening;
 
 pub use config::Config;
-pub use due::next_event;
+pub use due::{next_event, quiet_until};
 pub use machine::{FailKind, Machine, Outcome};
 pub use opening::open_config;
 pub use std::alloc::AllocError as Memory;

@@ -142,6 +142,35 @@ fn says_what_is_due(rt: HostRuntime) -> Result<(), Fail> {
     Ok(())
 }
 
+/// The tick up to which nothing is due for that node, which may boot again or not, with a timer in this tick.
+fn quiet_of(
+    alloc: Global,
+    outcome: Outcome,
+    boots_again: bool,
+    timer: u32,
+) -> Result<u32, AllocError> {
+    let mut config = busy(alloc, true, outcome)?;
+    config.machine.timers[2] = Some(timer);
+    if !boots_again {
+        config.machine.reboots = Vec::new(alloc);
+    }
+    Ok(quiet_until(&config))
+}
+
+#[test]
+fn says_up_to_when_nothing_is_due(rt: HostRuntime) -> Result<(), Fail> {
+    for (outcome, boots_again, timer, until) in [
+        (Outcome::Running, false, 6, 5),
+        (Outcome::Running, false, 3, 3),
+        (Outcome::Running, true, 6, 0),
+        (Outcome::Halted, true, 6, u32::MAX),
+    ] {
+        let quiet = quiet_of(rt.alloc(), outcome, boots_again, timer)?;
+        assert_eq!(rt; quiet, until);
+    }
+    Ok(())
+}
+
 /// Whether a machine is as node 1's at its start, without its queue.
 fn has_start(machine: &Machine) -> bool {
     machine.registers.len() == 16

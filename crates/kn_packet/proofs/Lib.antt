@@ -1,2 +1,3 @@
 pub mod Equal
 pub mod Ordered
+pub mod Quiet

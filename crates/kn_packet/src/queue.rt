@@ -1,6 +1,6 @@
 //! Queues of packets.
 
-ghost use Rattle.std.specs.Prelude.{◌≡◌, ◌↔◌, ◌<◌, ◌≤◌, [], insert, remove, length, IfOk, IsTrue, OnOk, IfErr, OnErr, MatchOption, None, Some, slice_get};
+ghost use Rattle.std.specs.Prelude.{◌≡◌, ◌↔◌, ℕ, ◌<◌, ◌≤◌, [], insert, remove, length, IfOk, IsTrue, OnOk, IfErr, OnErr, MatchOption, None, Some, slice_get};
 ghost use Rattle.std.specs.Cmp.Lexicographic.{pointwise};
 ghost use Rattle.kn_packet.specs.Equality.{packet_eq};
 ghost use Rattle.kn_packet.specs.Packets.{PacketView, posted, first_at, without_first_at};
@@ -53,6 +53,13 @@ impl Queue {
     {
         let place = place_at(&self.packets, tick)?;
         Some(&self.packets[place])
+    }
+    /// A tick before which no packet arrives: that of the first packet that arrives, or the greatest number where there is
+    /// no packet.
+    pub fn quiet_until(&self) -> u32
+        ensures { (tick : ℕ) → tick < result → first_at tick self.now ≡ None }
+    {
+        first_arrival(&self.packets)
     }
 
     /// The same packet, removed from the queue. It takes no memory.
@@ -130,6 +137,17 @@ fn place_at(packets: &[Packet], tick: u32) -> Option<usize>
         }
     }
     None
+}
+
+/// The first tick in which a packet arrives, or the greatest number where there is none.
+fn first_arrival(packets: &[Packet]) -> u32
+    ensures { (tick : ℕ) → tick < result → first_at tick packets.now ≡ None }
+{
+    let mut first = u32::MAX;
+    for packet in packets {
+        first = first.min(packet.arrival);
+    }
+    first
 }
 
 /// Equal packets, in the same order.

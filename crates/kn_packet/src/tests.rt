@@ -47,11 +47,13 @@ fn packets_come_out_in_order(rt: HostRuntime) -> Result<(), Fail> {
         (3, 6, 0, 0),
     ];
     let mut queue = Queue::new(rt.alloc());
+    assert_eq!(rt; queue.quiet_until(), u32::MAX);
     for (arrival, from, seq, copy) in posted {
         let p = packet(&rt, arrival, from, seq, copy)?;
         assert!(rt; queue.post(p).is_ok());
     }
     assert!(rt; queue.due(2).is_none());
+    assert_eq!(rt; queue.quiet_until(), 3);
     for (from, seq, copy) in [(0, 8, 0), (0, 8, 1), (0, 9, 0), (2, 0, 0)] {
         let want = packet(&rt, 4, from, seq, copy)?;
         assert!(rt; queue.due(4).is_some_and(|p| *p == want));

@@ -1,8 +1,7 @@
-use Rattle.std.proofs.Common.{◌++◌, false, true, List, sym, subst, ◌∙◌, arith, rules}
+use Rattle.std.proofs.Common.{◌++◌, List, sym, subst, ◌∙◌, arith, rules}
 use Rattle.std.specs.Prelude.{IfErr}
 use Rattle.kn_model.specs.Terms.{terms}
 use Rattle.kn_model.specs.Scenarios.{copies}
-use Rattle.kn_node.specs.Due as kept
 use Rattle.kn_cob.specs.Nodes.{NodeView}
 use Rattle.kn_cob.specs.Copies.{AreCopies, node_in}
 use Rattle.kn_cob.specs.Ticks.{StopsIn, StopsAt}

@@ -1,4 +1,4 @@
-use Rattle.std.proofs.Common.{◌≡◌, ◌+◌, ◌++◌, ◌∷◌, [], true, false, List, sym, subst, ◌∙◌, ap, arith, inl}
+use Rattle.std.proofs.Common.{◌≡◌, ◌++◌, ◌∷◌, [], true, false, List, sym, subst, ◌∙◌, ap, arith, inl}
 use Rattle.std.specs.List.{AllByRecursion}
 use Rattle.kn_model.specs.Terms.{terms}
 use Rattle.kn_model.specs.Scenarios.{turns}
