@@ -142,32 +142,33 @@ fn says_what_is_due(rt: HostRuntime) -> Result<(), Fail> {
     Ok(())
 }
 
-/// The tick up to which nothing is due for that node, which may boot again or not, with a timer in this tick.
+/// The tick up to which nothing is due for that node, with a timer in this tick and these reboots.
 fn quiet_of(
     alloc: Global,
     outcome: Outcome,
-    boots_again: bool,
     timer: u32,
+    reboots: Vec<u32>,
 ) -> Result<u32, AllocError> {
     let mut config = busy(alloc, true, outcome)?;
     config.machine.timers[2] = Some(timer);
-    if !boots_again {
-        config.machine.reboots = Vec::new(alloc);
-    }
+    config.machine.reboots = reboots;
     Ok(quiet_until(&config))
 }
 
 #[test]
 fn says_up_to_when_nothing_is_due(rt: HostRuntime) -> Result<(), Fail> {
-    for (outcome, boots_again, timer, until) in [
-        (Outcome::Running, false, 6, 5),
-        (Outcome::Running, false, 3, 3),
-        (Outcome::Running, true, 6, 0),
-        (Outcome::Halted, true, 6, u32::MAX),
+    for (outcome, timer, until) in [
+        (Outcome::Running, 6, 5),
+        (Outcome::Running, 3, 3),
+        (Outcome::Halted, 6, u32::MAX),
     ] {
-        let quiet = quiet_of(rt.alloc(), outcome, boots_again, timer)?;
+        let none = Vec::new(rt.alloc());
+        let quiet = quiet_of(rt.alloc(), outcome, timer, none)?;
         assert_eq!(rt; quiet, until);
     }
+    let reboots = Vec::from_array(rt.alloc(), [9])?;
+    let quiet = quiet_of(rt.alloc(), Outcome::Running, 6, reboots)?;
+    assert_eq!(rt; quiet, 0);
     Ok(())
 }
 

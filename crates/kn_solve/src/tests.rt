@@ -331,10 +331,10 @@ fn are_ones(v: &Verdict, count: u32) -> bool {
 fn a_budget_as_great_as_all_valuations_decides(rt: HostRuntime) -> Result<(), Fail> {
     let each = of_each(rt.alloc(), 17)?;
     assert!(rt; are_ones(&ask(&each, 131_072)?, 17));
-    // All but one of the 4,096 valuations come before the only one that meets it.
-    let all = of_all(rt.alloc(), 11)?;
-    assert!(rt; is_far(&ask(&all, 2_048)?, 2_048));
-    assert!(rt; are_ones(&ask(&all, 4_096)?, 12));
+    // All but one of the 131,072 valuations come before the only one that meets it.
+    let all = of_all(rt.alloc(), 16)?;
+    assert!(rt; is_far(&ask(&all, 65_536)?, 65_536));
+    assert!(rt; are_ones(&ask(&all, 131_072)?, 17));
     Ok(())
 }
 

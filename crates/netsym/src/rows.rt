@@ -54,6 +54,74 @@ out:  ret
 program = \"count\"
 ";
 
+/// Twelve inputs of one bit, and a failure where each of them is 1, which neither the term so far nor the next input tells
+/// alone. All but one of the 4,096 valuations come before the only one that leads to it.
+const ALL_OF_TWELVE: &str = "version = 1
+ticks = 1
+conflicts = 2048
+[[program]]
+name = \"all\"
+asm = '''
+boot: input r0, 1
+      input r1, 1
+      ult r2, r0, r1
+      xor r0, r1, r2
+      input r1, 1
+      ult r2, r0, r1
+      xor r0, r1, r2
+      input r1, 1
+      ult r2, r0, r1
+      xor r0, r1, r2
+      input r1, 1
+      ult r2, r0, r1
+      xor r0, r1, r2
+      input r1, 1
+      ult r2, r0, r1
+      xor r0, r1, r2
+      input r1, 1
+      ult r2, r0, r1
+      xor r0, r1, r2
+      input r1, 1
+      ult r2, r0, r1
+      xor r0, r1, r2
+      input r1, 1
+      ult r2, r0, r1
+      xor r0, r1, r2
+      input r1, 1
+      ult r2, r0, r1
+      xor r0, r1, r2
+      input r1, 1
+      ult r2, r0, r1
+      xor r0, r1, r2
+      input r1, 1
+      ult r2, r0, r1
+      xor r0, r1, r2
+      brz r0, a
+      assert r15
+a:    ret
+'''
+[[node]]
+program = \"all\"
+";
+
+const ALL_OF_TWELVE_OPEN: &str = "report 1 mapping cob ticks 1 nodes 1
+state 0 node 0 trace 01 outcome assert@35@0 open 2048
+state 1 node 0 trace 1 outcome running inputs -
+dstate 0 columns 0
+dstate 1 columns 1
+failure 0 open
+end states 2 dstates 2 reached 0 open 2
+";
+
+const ALL_OF_TWELVE_FOUND: &str = "report 1 mapping cob ticks 1 nodes 1
+state 0 node 0 trace 01 outcome assert@35@0 inputs 0.0=1 0.1=1 0.2=1 0.3=1 0.4=1 0.5=1 0.6=1 0.7=1 0.8=1 0.9=1 0.10=1 0.11=1
+state 1 node 0 trace 1 outcome running inputs -
+dstate 0 columns 0
+dstate 1 columns 1
+failure 0 reached dstate 0 pick 0 inputs 0.0=1 0.1=1 0.2=1 0.3=1 0.4=1 0.5=1 0.6=1 0.7=1 0.8=1 0.9=1 0.10=1 0.11=1
+end states 2 dstates 2 reached 1 open 0
+";
+
 /// A division by 0, and an index out of range.
 const BOUNDS: &str = "version = 1
 ticks = 1
@@ -1222,7 +1290,21 @@ const MORE_SCENARIOS_THAN_THE_LIMIT_REPORT: &str = "netsym: limit dstates tick 1
 ";
 
 /// Worked files that decide on single bits, send packets, set timers and meet limits.
-pub const ROWS: [Row; 42] = [
+pub const ROWS: [Row; 44] = [
+    Row {
+        name: "a failure that is far for the conflicts stays open",
+        file: ALL_OF_TWELVE,
+        change: AS_IT_STANDS,
+        status: Status::Open,
+        text: ALL_OF_TWELVE_OPEN,
+    },
+    Row {
+        name: "as many conflicts as valuations find it",
+        file: ALL_OF_TWELVE,
+        change: ("2048", "4096"),
+        status: Status::Found,
+        text: ALL_OF_TWELVE_FOUND,
+    },
     Row {
         name: "halves",
         file: HALVES,
