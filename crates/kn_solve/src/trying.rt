@@ -15,7 +15,7 @@ use std::alloc::{AllocError, Global};
 
 /// How many inputs are tried. It serves speed alone: to try one takes a look at each term, and a search first makes some
 /// hundred gates of it.
-const TRIES: u64 = 1024;
+const TRIES: u64 = 64;
 
 /// The least inputs under which a term is not 0, if they come early. Err is want of memory.
 pub(crate) fn early(

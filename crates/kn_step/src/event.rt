@@ -132,14 +132,8 @@ pub fn comes_later(net: &Net)
     ensures { IsNet net.now.network }
 {
     net.bounds();
-    all_valid(&net.programs);
-}
-
-/// That programs are valid, each by its type.
-fn all_valid(programs: &[Program])
-    ensures { AllByRecursion IsValid programs.now }
-{
-    for program in programs {
+    // Programs are valid, each by its type.
+    for program in &net.programs {
         program.validity();
     }
 }

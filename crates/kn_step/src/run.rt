@@ -2,7 +2,6 @@
 
 ghost use Rattle.std.specs.Prelude.{◌≡◌, ◌<◌, ◌≤◌, ◌++◌, ◌∷◌, [], map, length, ℕ, List, true, false, Some, IfOk, OnOk};
 ghost use Rattle.kn_term.specs.Terms.{Term};
-ghost use Rattle.kn_cond.specs.Literals.{negated};
 ghost use Rattle.kn_cond.specs.Meanings.{literal_of};
 ghost use Rattle.kn_model.specs.Terms.{terms};
 ghost use Rattle.kn_model.specs.Paths.{Path as PathOf, decided, path_of};
@@ -266,8 +265,9 @@ fn both_sides(net: &Net, spot: &Spot, split: Split, way: Way) -> Result<(Way, Wa
     } = split;
     let mut way = way;
     let one = first_side(net, spot, instr, literal, first, &mut way)?;
-    let other = second_side(net, spot, instr, literal, second, way)?;
-    Ok((one, other))
+    let opposite = negated(literal);
+    go(net, spot, instr, true, opposite, Some(second), &mut way)?;
+    Ok((one, way))
 }
 
 /// A way on where the literal of a decision holds, beside the way itself, which shares its terms. Err is want of memory.
@@ -290,26 +290,4 @@ fn first_side(
     let mut side = way.fork()?;
     go(net, spot, instr, false, literal, Some(further), &mut side)?;
     Ok(side)
-}
-
-/// A way on where the literal of a decision does not hold. Err is want of memory.
-fn second_side(
-    net: &Net,
-    spot: &Spot,
-    instr: Instr,
-    literal: Literal,
-    further: Standing,
-    way: Way,
-) -> Result<Way, AllocError>
-    requires place { IsIn net.now.network spot.now }
-    requires at { IsAtDecision net.now.network spot.now instr literal way }
-    requires further { IsFurther net.now.network.limits.conflicts (known_of way) (negated (literal_of way.terms literal)) (Some further) }
-    requires sound { IsSound net.now.network.limits.conflicts way }
-    ensures way { IfOk result (λ w. AlikeWay (way_of w) (sided (here_of net.now.network spot.now) instr true literal way)) }
-    ensures on { IfOk result (λ w. IsOn net.now.network spot.now way w) }
-{
-    let mut way = way;
-    let opposite = negated(literal);
-    go(net, spot, instr, true, opposite, Some(further), &mut way)?;
-    Ok(way)
 }

@@ -81,10 +81,12 @@ impl Way {
         }
     }
 
-    /// An equal way, which shares its terms. Err is want of memory.
-    pub fn copy(&self) -> Result<Way, AllocError>
-        ensures { IfOk result (λ w. w ≡ self.now) }
+    /// An equal way; all terms are shared by both. Err is want of memory.
+    pub fn fork(&mut self) -> Result<Way, AllocError>
+        ensures fork { IfOk result (λ w. w ≡ self.old) }
+        ensures same { self.new ≡ self.old }
     {
+        self.freeze()?;
         // What takes least to let go of comes first, as the check has to look at what is let go of where memory is wanting.
         Ok(Way {
             own: self.own,
@@ -98,15 +100,6 @@ impl Way {
             sends: copy_packets(*self.sends.allocator(), &self.sends)?,
             machine: self.machine.copy()?,
         })
-    }
-
-    /// An equal way; all terms are shared by both. Err is want of memory.
-    pub fn fork(&mut self) -> Result<Way, AllocError>
-        ensures fork { IfOk result (λ w. w ≡ self.old) }
-        ensures same { self.new ≡ self.old }
-    {
-        self.freeze()?;
-        self.copy()
     }
 
     /// A word as a term.

@@ -2,7 +2,7 @@
 use Rattle.std.proofs.Common.{drop}
 use Rattle.std.specs.List.{AllByRecursion}
 use Rattle.kn_code.specs.Code.{IsValid}
-use Rattle.kn_step.proofs.event.all_valid.Given as goal
+use Rattle.kn_step.proofs.event.comes_later.Given as goal
 
 abbrev pub invariant-loop-program : goal.invariant-loop-program
-invariant-loop-program l = AllByRecursion IsValid (drop l.program-index l.programs) → AllByRecursion IsValid l.programs
+invariant-loop-program l = AllByRecursion IsValid (drop l.program-index l.program-items) → AllByRecursion IsValid l.program-items
