@@ -43,7 +43,7 @@ start_at net n (x ∷ xs) zero d h inside = let same : n ≡ n + 0 = omega arith
 start_at net n (x ∷ xs) (suc k) d h inside = let same : (n + 1) + k ≡ n + suc k = omega arith in subst (λ (j : ℕ). IsStart net j (get_or xs k d)) same (start_at net (n + 1) xs k d h.1 (omega (arith, inside)))
 
 -- nothing is asked of no input
-nothing_asked : (conflicts : ℕ) → StandsFor conflicts (that []) (Inputs [])
+pub nothing_asked : (conflicts : ℕ) → StandsFor conflicts (that []) (Inputs [])
 nothing_asked conflicts = record { given_words = []; is = refl; meet = (tt, refl); least = λ ws m b. go ws m.0 b }
   where
     go : (ws : List ℕ) → AreWords [] ws → ComesBefore ws [] → ⊥

@@ -1,8 +1,7 @@
 -- A report that is made scenario by scenario.
 use Rattle.std.proofs.Common.{◌≡◌, ℕ, zero, suc, ◌+◌, ◌-◌, ◌*◌, ◌<◌, ◌≤◌, Bool, true, false, cond, List, [], ◌∷◌, ◌++◌, length, map, drop, Some, refl, sym, ap, subst, ◌∙◌, arith, append_assoc}
-use Rattle.std.specs.Prelude.{flat_map, slice_get, Vec, Result, IfOk}
+use Rattle.std.specs.Prelude.{flat_map, slice_get, Vec}
 use Rattle.std.specs.declared.alloc.Global.{Global}
-use Rattle.std.specs.declared.alloc.AllocError.{AllocError}
 use Rattle.std.specs.List.{AllByRecursion}
 use Rattle.std.proofs.lemmas.List.{append-nil, length-append, map-append}
 use Rattle.std.proofs.lemmas.List.Concat.{flat_map-cons}
@@ -10,12 +9,11 @@ use Rattle.std.proofs.Math.Nat.{suc-mul}
 use Rattle.kn_node.specs.Views.{ConfigView}
 use Rattle.kn_model.specs.Nets.{Network}
 use Rattle.kn_model.specs.Reports.{Report, StateLine, FailureLine, Reach, Cob, singles}
-use Rattle.kn_model.specs.Conditions.{Condition, Query, that}
+use Rattle.kn_model.specs.Conditions.{Condition, that}
 use Rattle.kn_model.proofs.Lists.{all-weaker}
 use Rattle.kn_solve.specs.declared.judge.Judged.{Judged}
 use Rattle.kn_solve.specs.declared.judge.Judged.TheVariants as judged
-use Rattle.kn_solve.specs.Formulas.{Asked, query_of}
-use Rattle.kn_solve.specs.Laws.{WithoutColumns}
+use Rattle.kn_solve.specs.Formulas.{Asked}
 use Rattle.kn_solve.specs.Verdicts.{IsJudged}
 use Rattle.kn_report.specs.Views.{lists_of}
 use Rattle.kn_step.specs.Views.{own_of}
@@ -144,10 +142,6 @@ numbers_again x (j ∷ js) = ap (λ (l : List ℕ). j ∷ l) (numbers_again x js
 all_reached : (P : Reach → Type 0) (x : Reach) → P x → (js : List ℕ) → AllByRecursion (λ (w : FailureLine). P w.reach) (map (reached_at x) js)
 all_reached P x p [] = tt
 all_reached P x p (j ∷ js) = (p, all_reached P x p js)
-
-pub judged_by : (r : Result Judged AllocError) (b b' : ℕ) (f : Asked) (c : Condition) → WithoutColumns → b ≡ b' → f ≡ record { condition = c; columns = [] } → IfOk r (IsJudged b (query_of f)) → IfOk r (IsJudged b' (that c))
-judged_by r b b' f c law same is h =
-    subst (λ (q : Query). IfOk r (IsJudged b' q)) (ap query_of is ∙ law c) (subst (λ (n : ℕ). IfOk r (IsJudged n (query_of f))) same h)
 
 pub failures_are : (conflicts d i : ℕ) (cs : List ConfigView) (j : Judged) (p : List ℕ) (failed : List ℕ) → p ≡ numbers (length cs) i → failed ≡ failed_from i (lines_from 0 cs) → IsJudged conflicts (that (joint_of cs)) j
     → AreFailuresOf conflicts d i cs (map (reached_at (reach_by d p j)) failed)

@@ -11,11 +11,13 @@ ghost use Rattle.kn_cob.specs.Reports.{line_of, lines_from, numbers, is_failed, 
 
 use crate::node::node_count;
 use crate::run::{CobRun, Scenario};
+use kn_cond::{Cond, Standing};
 use kn_node::{Config, Outcome};
 use kn_plan::Net;
 use kn_report::{Columns, FailureLine, Mapping, Reached, Report, StateLine};
-use kn_solve::{Formula, Judge, Judged, Plain, without_columns};
+use kn_solve::{Formula, Judged, Plain, ask_more};
 use kn_step::comes_later;
+use kn_term::Valuation;
 use std::alloc::{AllocError, Global};
 
 /// Where a scenario stands in a report: its number, the number of its first state, and how many states it has, one for each
@@ -155,14 +157,25 @@ fn joint_of(alloc: Global, scenario: &Scenario) -> Result<Formula, AllocError>
     Ok(joint)
 }
 
-/// What is known of the inputs that meet the own conditions of all nodes of a scenario. Err is want of memory.
+/// What is known of the inputs that meet the own conditions of all nodes of a scenario, asked literal by literal. Err is
+/// want of memory.
 fn judged(alloc: Global, net: &Net, scenario: &Scenario) -> Result<Judged, AllocError>
     ensures { IfOk result (IsJudged net.now.network.limits.conflicts (that (joint_of scenario.now))) }
 {
     net.bounds();
-    without_columns();
     let joint = joint_of(alloc, scenario)?;
-    Plain.ask(&joint, net.limits.conflicts)
+    let (terms, all) = joint.condition();
+    let none = Cond::new(alloc);
+    let nothing = Standing::Inputs(Valuation::new(alloc));
+    ask_more(
+        alloc,
+        &mut Plain,
+        terms,
+        &none,
+        &nothing,
+        all,
+        net.limits.conflicts,
+    )
 }
 
 /// Where the failed states of a scenario are reached, by the answer to what its nodes ask together. Err is want of memory.

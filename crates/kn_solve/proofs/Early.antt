@@ -1,7 +1,7 @@
 -- Words by their place in the order of least inputs.
-use Rattle.std.proofs.Common.{◌≡◌, ℕ, zero, suc, ◌+◌, ◌-◌, ◌*◌, ◌/◌, ◌%◌, ◌^◌, ◌<◌, ◌≤◌, Bool, true, false, not, List, [], ◌∷◌, length, map, drop, get_or, refl, sym, ap, subst, ◌∙◌, inl, inr, arith}
-use Rattle.std.specs.Prelude.{◌&&◌, ◌⊎◌, nat_eq, if◌then◌else◌}
-use Rattle.std.proofs.lemmas.Bool.{cases_lt, cases_eq, eqb-true, eq-eqb}
+use Rattle.std.proofs.Common.{◌≡◌, ℕ, ◌+◌, ◌-◌, ◌*◌, ◌/◌, ◌%◌, ◌^◌, ◌<◌, ◌≤◌, Bool, true, false, not, List, [], ◌∷◌, length, map, drop, get_or, refl, sym, ap, subst, ◌∙◌, inl, inr, arith}
+use Rattle.std.specs.Prelude.{◌&&◌, nat_eq, if◌then◌else◌}
+use Rattle.std.proofs.lemmas.Bool.{cases_eq, eqb-true, eq-eqb}
 use Rattle.std.proofs.lemmas.List.Sums.{sum_by-cons}
 use Rattle.std.proofs.lemmas.List.{drop_more}
 use Rattle.std.proofs.lemmas.Nat.{pow_pos}
@@ -11,7 +11,7 @@ use Rattle.std.proofs.Math.Pow.{pow-add}
 use Rattle.kn_built.proofs.Deciding.{both_true}
 use Rattle.kn_term.specs.Terms.{Term, Valuation, listed, ev}
 use Rattle.kn_term.specs.Valuations.{AreEntries, OneList}
-use Rattle.kn_cond.specs.Conditions.{Read, Query, AreWords, valuation_of, MeetsWith, IsLeast}
+use Rattle.kn_cond.specs.Conditions.{Read, Query, AreWords, valuation_of, IsLeast}
 use Rattle.kn_blast.specs.declared.inputs.InputBits.{InputBits}
 use Rattle.kn_blast.specs.Inputs.{bits_of, AreInputBits}
 use Rattle.kn_solve.specs.Orders.{width_of, rank, word_at, words_for, NoneBelow}

@@ -1,25 +1,23 @@
 -- What is far stays far where more is asked.
-use Rattle.std.proofs.Common.{◌≡◌, ℕ, zero, suc, ◌+◌, ◌^◌, ◌%◌, ◌<◌, ◌≤◌, Bool, true, false, List, [], ◌∷◌, length, map, max, refl, sym, ap, subst, ◌∙◌, inl, inr, arith}
+use Rattle.std.proofs.Common.{◌≡◌, ℕ, zero, suc, ◌+◌, ◌^◌, ◌%◌, ◌<◌, ◌≤◌, Bool, true, false, List, [], ◌∷◌, length, map, refl, sym, ap, ◌∙◌, inl, inr, arith}
 use Rattle.std.specs.Prelude.{◌&&◌, Contains, nat_eq, if◌then◌else◌}
 use Rattle.std.specs.List.{AllByRecursion}
 use Rattle.std.proofs.lemmas.List.Sums.{sum_by-cons}
 use Rattle.std.proofs.Math.Nat.{mod-le, mod-mod, mod-eq_of_lt}
 use Rattle.std.proofs.Math.Pow.{pow_mono}
-use Rattle.std.specs.declared.cmp.Ordering.TheVariants.{Less}
 use Rattle.kn_built.proofs.Sorted.{All-each}
 use Rattle.kn_built.proofs.Deciding.{both_true}
 use Rattle.std.proofs.lemmas.Bool.{eqb-true}
-use Rattle.kn_term.specs.Terms.{Valuation, listed, WordsByInputs}
+use Rattle.kn_term.specs.Terms.{listed, WordsByInputs}
 use Rattle.kn_term.specs.Valuations.{precedes}
-use Rattle.kn_cond.specs.Conditions.{Condition, Read, Query, reads_of, widest, AreWords, valuation_of, ComesBefore, MeetsWith, AreDistinct, IsSmall, IsFar, that}
+use Rattle.kn_cond.specs.Conditions.{Read, Query, reads_of, AreWords, valuation_of, ComesBefore, MeetsWith, AreDistinct, IsFar, that}
 use Rattle.kn_solve.specs.Orders.{width_of, rank, word_at}
 use Rattle.kn_solve.specs.Asking.{RisesBehind, AreRising, width_at}
-use Rattle.kn_solve.specs.Parts.{AreAmong, PartFar}
+use Rattle.kn_solve.specs.Parts.{PartFar}
 use Rattle.kn_solve.proofs.Ranks.{less_first, same_first, three, lower_before, one_rank}
-use Rattle.kn_solve.proofs.Splitting.{words_by, listed_word, cut_words, cut_are_words, cut_word_at}
+use Rattle.kn_solve.proofs.Splitting.{listed_word, cut_words, cut_are_words, cut_word_at}
 use Rattle.kn_solve.proofs.Widest.{own_width, greatest, widest_rising, rising_width}
 use Rattle.kn_solve.proofs.Staying.{irreflexive, absent_word, itself, behind_word, apart, own_word, other_word, fits_at, differ, Rests, AsksMore}
-use Rattle.kn_solve.proofs.Answering.{contained}
 use Rattle.kn_solve.proofs.Joining.{part_more, condition_rests}
 
 -- ---- how many bits are read

@@ -1,6 +1,6 @@
 -- The least inputs of parts that share none, joined, are the least of all.
-use Rattle.std.proofs.Common.{◌≡◌, ℕ, zero, suc, ◌+◌, ◌^◌, ◌%◌, ◌<◌, ◌≤◌, Bool, true, false, List, [], ◌∷◌, ◌++◌, length, map, flat_map, refl, sym, ap, subst, ◌∙◌, inl, inr, arith}
-use Rattle.std.specs.Prelude.{◌&&◌, ◌⊎◌, Contains, nat_eq, if◌then◌else◌}
+use Rattle.std.proofs.Common.{◌≡◌, ℕ, ◌^◌, ◌%◌, ◌<◌, ◌≤◌, Bool, true, false, List, [], ◌∷◌, ◌++◌, refl, sym, ap, subst, ◌∙◌, inl, inr, arith}
+use Rattle.std.specs.Prelude.{◌&&◌, ◌⊎◌, nat_eq, if◌then◌else◌}
 use Rattle.std.specs.List.{AllByRecursion}
 use Rattle.std.specs.declared.cmp.Ordering.{Ordering}
 use Rattle.std.specs.declared.cmp.Ordering.TheVariants.{Less, Equal, Greater}
@@ -8,14 +8,12 @@ use Rattle.std.proofs.lemmas.Bool.{cases_lt, eqb-true}
 use Rattle.std.proofs.Math.Nat.{mod-mod, mod-eq_of_lt}
 use Rattle.std.proofs.Math.Pow.{pow_mono}
 use Rattle.kn_built.proofs.Deciding.{both_true}
-use Rattle.kn_term.specs.Terms.{Term, Word, Input, Apply, Choice, Valuation, Reads, listed, ev, WordsByInputs}
+use Rattle.kn_term.specs.Terms.{Term, Word, Input, Apply, Choice, Valuation, Reads, listed, WordsByInputs}
 use Rattle.kn_term.specs.Valuations.{precedes, AreEntries, OneList}
 use Rattle.kn_cond.specs.Literals.{Literal, word_holds}
-use Rattle.kn_cond.specs.Conditions.{Condition, Read, Query, read_cmp, put_before, put_read, reads_in, reads_of, widest, literal_holds, holds, AreWords, valuation_of, ComesBefore, MeetsWith, IsLeast, IsImpossible, that}
-use Rattle.kn_solve.specs.Formulas.{query_of}
+use Rattle.kn_cond.specs.Conditions.{Condition, Read, Query, read_cmp, put_before, put_read, reads_in, reads_of, widest, literal_holds, holds, valuation_of, IsLeast, that}
 use Rattle.kn_solve.specs.Orders.{word_at}
 use Rattle.kn_solve.specs.Asking.{AreRising, width_at}
-use Rattle.kn_solve.specs.Laws.{WithoutColumns}
 use Rattle.kn_solve.specs.Parts.{AreAmong, IsSplit, ReadsOnly, AllRead, IsLaidOver, PartsJoin, PartNever}
 use Rattle.kn_solve.proofs.Splitting.{words_by, words_by_are, word_at_by, listed_word, valuation_entries, cut_words, cut_are_words, cut_word_at}
 use Rattle.kn_solve.proofs.Widest.{greatest, greatest_append, widest_greatest, widest_rising, rising_width}

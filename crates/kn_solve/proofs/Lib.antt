@@ -16,3 +16,4 @@ pub mod Joining
 pub mod Farther
 pub mod Sharing
 pub mod Early
+pub mod Successive

@@ -1,19 +1,16 @@
 -- Literals that hang together by the inputs that they read.
 use Rattle.std.proofs.Common.{◌≡◌, ℕ, zero, suc, ◌<◌, ◌≤◌, Bool, true, false, not, List, [], ◌∷◌, ◌++◌, length, map, get_or, Some, refl, sym, ap, subst, ◌∙◌, inl, inr, arith}
-use Rattle.std.specs.Prelude.{◌&&◌, ◌||◌, ◌⊎◌, Contains, nat_eq, cond, if◌then◌else◌, slice_get, slice_index_or}
+use Rattle.std.specs.Prelude.{◌&&◌, ◌||◌, ◌⊎◌, nat_eq, cond, if◌then◌else◌, slice_get, slice_index_or}
 use Rattle.std.specs.List.{AllByRecursion, filter}
 use Rattle.std.proofs.lemmas.Bool.{cases_eq}
-use Rattle.kn_built.proofs.Deciding.{both_true}
-use Rattle.kn_built.proofs.Sorted.{All-each}
 use Rattle.kn_term.specs.declared.node.Node.{Node}
 use Rattle.kn_term.specs.declared.node.Ref.{Ref}
 use Rattle.kn_term.specs.declared.node.Literal.{Literal as Listed}
 use Rattle.kn_word.specs.declared.Op.{Op}
-use Rattle.kn_term.specs.Terms.{Term, Word, Input, Apply, Choice, Reads, listed}
-use Rattle.kn_term.specs.Valuations.{AreEntries}
+use Rattle.kn_term.specs.Terms.{Term, Word, Input, Apply, Choice, Reads}
 use Rattle.kn_term.specs.Nodes.{term_at, term_in, terms_of, AreNodes}
 use Rattle.kn_term.specs.Reached.{RootsStand}
-use Rattle.kn_cond.specs.Conditions.{Condition, reads_in}
+use Rattle.kn_cond.specs.Conditions.{reads_in}
 use Rattle.kn_cond.specs.Literals.{Literal}
 use Rattle.kn_cond.specs.Meanings.{literal_of, condition_of, StandIn}
 use Rattle.kn_cond.proofs.Kept.{StandIn-rest}
@@ -21,7 +18,6 @@ use Rattle.kn_blast.specs.declared.inputs.InputBits.{InputBits}
 use Rattle.kn_blast.specs.Inputs.{width_of, Covers}
 use Rattle.kn_solve.specs.Parts.{AreAmong, IsSplit, ReadsOnly, AllRead, is_among, LiteralsRead, marked, AreMarked}
 use Rattle.kn_solve.proofs.Members.{all_among, all_mapped, split_first, split_more}
-use Rattle.kn_solve.proofs.Answering.{contained}
 use Rattle.kn_solve.proofs.Opening.{term_positive}
 use Rattle.kn_solve.proofs.Widest.{ArePositive}
 

@@ -1,7 +1,7 @@
 //! What is known of inputs that meet further literals.
 
 ghost use Rattle.std.specs.Prelude.{◌≤◌, ◌++◌, ℕ, true, false, IfOk, IfSome};
-ghost use Rattle.kn_cond.specs.Conditions.{Condition, StandsFor, IsLeast, that};
+ghost use Rattle.kn_cond.specs.Conditions.{Condition, Query, StandsFor, IsLeast, that};
 ghost use Rattle.kn_cond.specs.Meanings.{condition_of, StandIn};
 ghost use Rattle.kn_solve.specs.Verdicts.{IsJudged};
 ghost use Rattle.kn_solve.specs.Parts.{IsSplit, AllRead, is_among};
@@ -17,9 +17,73 @@ use std::alloc::{AllocError, Global};
 
 /// What is known of the inputs that meet a condition and further literals, where what is known of the condition is at
 /// hand. Where its least inputs meet these literals too, they are the least of all, and nothing is searched; nor is it
-/// where the condition was not decided and no literal is added. Else only those literals are asked that hang together with
-/// the further ones by the inputs that they read, and all other inputs keep their words. Err is want of memory.
+/// where the condition was not decided and no literal is added. Else one further literal is asked after another, and for
+/// each only those that hang together with it by the inputs that they read, and all other inputs keep their words. Err is
+/// want of memory.
 pub fn ask_more<J: Judge>(
+    alloc: Global,
+    judge: &mut J,
+    terms: &Terms,
+    c: &Cond,
+    known: &Standing,
+    more: &Cond,
+    budget: u64,
+) -> Result<Judged, AllocError>
+    requires condition { StandIn terms.now c.now }
+    requires further { StandIn terms.now more.now }
+    requires budget { 1 ≤ budget }
+    requires known { StandsFor budget (that (condition_of terms.now c.now)) known.now }
+    ensures { IfOk result (IsJudged budget (that (condition_of terms.now c.now ++ condition_of terms.now more.now))) }
+{
+    if let Some(told) = told_already(terms, known, more)? {
+        return Ok(told);
+    }
+    ask_each(alloc, judge, terms, c, known, more, budget)
+}
+
+/// What is known of the inputs that meet a condition and further literals, asked one after another.
+fn ask_each<J: Judge>(
+    alloc: Global,
+    judge: &mut J,
+    terms: &Terms,
+    c: &Cond,
+    known: &Standing,
+    more: &Cond,
+    budget: u64,
+) -> Result<Judged, AllocError>
+    requires condition { StandIn terms.now c.now }
+    requires further { StandIn terms.now more.now }
+    requires budget { 1 ≤ budget }
+    requires known { StandsFor budget (that (condition_of terms.now c.now)) known.now }
+    ensures { IfOk result (IsJudged budget (that (condition_of terms.now c.now ++ condition_of terms.now more.now))) }
+{
+    let mut all = c.copy()?;
+    let mut standing = known.copy()?;
+    for literal in more.literals() {
+        let mut one = Cond::new(alloc);
+        one.add(*literal)?;
+        let judged = ask_further(alloc, judge, terms, &all, &standing, &one, budget)?;
+        let Some(next) = judged.standing() else {
+            return Ok(Judged::Never);
+        };
+        standing = next;
+        all.add(*literal)?;
+    }
+    Ok(judged_of(standing))
+}
+
+/// What is known, as an answer.
+fn judged_of(standing: Standing) -> Judged
+    ensures { (budget : ℕ) (q : Query) → StandsFor budget q standing → IsJudged budget q result }
+{
+    match standing {
+        Standing::Inputs(inputs) => Judged::Met(inputs),
+        Standing::Open { leaves } => Judged::Undecided { leaves },
+    }
+}
+
+/// The same of literals that are asked together.
+fn ask_further<J: Judge>(
     alloc: Global,
     judge: &mut J,
     terms: &Terms,

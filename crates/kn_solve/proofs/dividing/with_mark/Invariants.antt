@@ -1,7 +1,6 @@
 -- The literals so far.
-use Rattle.std.proofs.Common.{◌≡◌, ◌++◌, not, drop}
+use Rattle.std.proofs.Common.{◌≡◌, ◌++◌, drop}
 use Rattle.std.specs.List.{filter}
-use Rattle.kn_term.specs.declared.node.Literal.{Literal as Listed}
 use Rattle.kn_solve.specs.Parts.{marked}
 use Rattle.kn_solve.proofs.dividing.with_mark.Given as goal
 

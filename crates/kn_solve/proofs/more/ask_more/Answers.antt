@@ -1,7 +1,7 @@
--- What was told already, and what was asked.
-use Rattle.std.proofs.Common.{IfOk, IfSome, ◌++◌, subst}
+-- What was told already.
+use Rattle.std.proofs.Common.{IfSome, ◌++◌, subst}
 use Rattle.std.specs.declared.option.Option.{Option}
-use Rattle.kn_cond.specs.Conditions.{StandsFor, that}
+use Rattle.kn_cond.specs.Conditions.{that}
 use Rattle.kn_cond.specs.Meanings.{condition_of}
 use Rattle.kn_solve.specs.declared.judge.Judged.{Judged}
 use Rattle.kn_solve.specs.Verdicts.{IsJudged}
@@ -12,6 +12,3 @@ returns-in-Some g c =
     let ns = c.args.terms.now in
     let asked = that (condition_of ns c.args.c.now ++ condition_of ns c.args.more.now) in
     subst (λ (o : Option Judged). IfSome o (IsJudged c.args.budget asked)) c.in-Some.is (c.in_ok-told.ensures c.args.budget (condition_of ns c.args.c.now) c.requires.known)
-
-pub ask_part-requires-clause-least : goal.ask_part-requires-clause-least
-ask_part-requires-clause-least g c = subst (StandsFor c.args.budget (that (condition_of c.args.terms.now c.args.c.now))) c.in-Inputs.is c.requires.known

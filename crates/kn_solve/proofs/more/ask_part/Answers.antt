@@ -1,10 +1,9 @@
 -- The literals of the part stand, and what is known of it is known of all.
 use Rattle.std.proofs.Common.{true, false, List, ◌++◌, sym, subst}
 use Rattle.kn_blast.specs.declared.inputs.InputBits.{InputBits}
-use Rattle.kn_cond.specs.Conditions.{Condition, that}
+use Rattle.kn_cond.specs.Conditions.{Condition}
 use Rattle.kn_cond.specs.Meanings.{literal_of, condition_of}
 use Rattle.kn_cond.proofs.Kept.{StandIn-append, condition_of-append}
-use Rattle.kn_solve.specs.Verdicts.{IsJudged}
 use Rattle.kn_solve.specs.Parts.{IsSplit, LiteralsRead}
 use Rattle.kn_solve.proofs.Members.{mapped_split}
 use Rattle.kn_solve.proofs.Sharing.{stand_among, condition_read}

@@ -2,7 +2,7 @@
 use Rattle.std.proofs.Common.{subst}
 use Rattle.kn_solve.specs.Parts.{is_among}
 use Rattle.kn_solve.specs.Verdicts.{IsJudged}
-use Rattle.kn_cond.specs.Conditions.{that, IsLeast, IsFar}
+use Rattle.kn_cond.specs.Conditions.{that}
 use Rattle.kn_solve.proofs.more.of_all.Goals as goal
 
 pub returns-in_ok-words-in-Met : goal.returns-in_ok-words-in-Met

@@ -1,5 +1,5 @@
 -- The least inputs of the condition meet the further literals too.
-use Rattle.std.proofs.Common.{◌≡◌, ◌++◌, sym, subst, ◌∙◌}
+use Rattle.std.proofs.Common.{◌++◌, sym, subst, ◌∙◌}
 use Rattle.kn_cond.specs.Conditions.{StandsFor, IsLeast, that}
 use Rattle.kn_cond.specs.Meanings.{condition_of}
 use Rattle.kn_solve.proofs.Further.{least_with_more}
