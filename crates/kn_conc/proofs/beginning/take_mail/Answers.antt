@@ -1,0 +1,18 @@
+-- The queue stays in order.
+use Rattle.std.proofs.Common.{sym, subst}
+use Rattle.kn_built.specs.Putting.{AreSorted}
+use Rattle.kn_model.specs.Packets.{packet_le}
+use Rattle.kn_conc.proofs.InOrder.{sorted_without}
+use Rattle.kn_conc.proofs.beginning.take_mail.Goals as goal
+
+pub invariant_of-node : goal.invariant_of-node
+invariant_of-node c =
+    let was = c.node.invariant in
+    record {
+      all_registers = was.all_registers;
+      all_words = was.all_words;
+      all_timers = was.all_timers;
+      few_inputs = was.few_inputs;
+      few_sent = was.few_sent;
+      in_order = subst (AreSorted packet_le) (sym c.take.ensures.others) (sorted_without c.args.tick c.node.inside.queue.items was.in_order);
+    }
