@@ -22,3 +22,6 @@ pub use opening::open_at;
 pub use packet::ConcPacket;
 pub use queue::queue_at;
 pub use std::alloc::AllocError as Memory;
+
+#[cfg(test)]
+mod tests;
