@@ -10,7 +10,7 @@ use Rattle.kn_dstate.specs.declared.row.Entry.{Entry}
 use Rattle.kn_dstate.specs.declared.row.Row.{Row}
 use Rattle.kn_dstate.specs.Histories.{told, history_in, entries_history, IsHistoryOf, IsTable}
 use Rattle.kn_dstate.specs.Places.{PlaceView, is_in, holds, AreDistinct}
-use Rattle.kn_dstate.specs.Graphs.{KnownView, GraphView, at, state, with_state, IsHeld, IsPlaced, IsTarget, IsLowest, NoneFrom, IsOpened, HasNew, Held, known_of, shown, with_pin, IsStateOf, IsColumn, IsInbox, IsPlace, IsKnown, IsGraph}
+use Rattle.kn_dstate.specs.Graphs.{KnownView, GraphView, at, state, with_state, IsHeld, IsPlaced, IsTarget, IsLowest, NoneFrom, IsOpened, HasNew, Held, first_state, known_of, shown, with_pin, IsStateOf, IsColumn, IsInbox, IsPlace, IsKnown, IsGraph}
 use Rattle.kn_dstate.specs.Gathered.{gathered}
 use Rattle.kn_dstate.proofs.Gathering.{gathered-held, held-gathered}
 use Rattle.kn_dstate.proofs.Growing.{get_left, get_last, IsHistoryOf-grown}
@@ -53,10 +53,6 @@ some_none o x e f = let bad : Some x ≡ None = sym e ∙ f in absurd cc
 some_same : {A : Type 0} (o : Option A) (x y : A) → o ≡ Some x → o ≡ Some y → x ≡ y
 some_same o x y e f = let both : Some x ≡ Some y = sym e ∙ f in cc
 
--- a node's state in a new graph
-abbrev pub first : ℕ → Held
-first n = record { known = record { node = n; history = n; pinned = false }; dstates = 0 ∷ [] }
-
 -- what is known of a new graph's dstates
 pub record OpenDstates (nodes : ℕ) (ds : List (Option PlaceView)) : Type 0 where
   pub columns_many : (p : PlaceView) → at ds 0 ≡ Some p → length p.columns ≡ nodes
@@ -68,7 +64,7 @@ pub record OpenDstates (nodes : ℕ) (ds : List (Option PlaceView)) : Type 0 whe
 
 -- of its states
 pub record OpenStates (nodes : ℕ) (st : List (Option Held)) : Type 0 where
-  pub each : (n : ℕ) → n < nodes → at st n ≡ Some (first n)
+  pub each : (n : ℕ) → n < nodes → (capacity : ℕ) × (at st n ≡ Some (first_state n capacity))
   pub none : (n : ℕ) → nodes ≤ n → at st n ≡ None
 
 -- and of its histories
@@ -89,7 +85,7 @@ module _ (nodes : ℕ) (ds : List (Option PlaceView)) (st : List (Option Held)) 
       subst (IsColumn (shown st) n) same (record {
         some = omega arith;
         once = once_one n;
-        known = λ s there. ((first n).known, at-shown st s ∙ ap (option_map known_of) (ap (at st) (in_one s n there) ∙ s0.each n low), refl);
+        known = λ s there. let is = s0.each n low in ((first_state n is.0).known, at-shown st s ∙ ap (option_map known_of) (ap (at st) (in_one s n there) ∙ is.1), refl);
       })
 
   first_inbox : (p : PlaceView) → at ds 0 ≡ Some p → (n : ℕ) (b : List ℕ) → slice_get p.inboxes n ≡ Some b → IsInbox [] n b
@@ -107,8 +103,8 @@ module _ (nodes : ℕ) (ds : List (Option PlaceView)) (st : List (Option Held)) 
       let there : get_or p.columns n [] ≡ n ∷ [] = get_or_from_slice_get p.columns n (n ∷ []) [] (d0.columns p d0.one.1 n low) in
       (p, d0.one.1, ap (is_in n) there ∙ one_in n)
 
-  first_known : (s : ℕ) → s < nodes → IsKnown nodes ds (told rows) s (first s)
-  first_known s low = record {
+  first_known : (s capacity : ℕ) → s < nodes → IsKnown nodes ds (told rows) s (first_state s capacity)
+  first_known s capacity low = record {
     node = low;
     history = (Done, r0.each s low);
     once = once_one 0;
@@ -122,7 +118,7 @@ module _ (nodes : ℕ) (ds : List (Option PlaceView)) (st : List (Option Held)) 
   pub opened_graph : IsGraph nodes ds st rows []
   opened_graph = record {
     places = λ d p e. first_place p (ap (at ds) (sym (zeroth d p e)) ∙ e);
-    known = λ s x e. let low = below s x e in subst (IsKnown nodes ds (told rows) s) (some_same (at st s) (first s) x (s0.each s low) e) (first_known s low);
+    known = λ s x e. let low = below s x e in let is = s0.each s low in subst (IsKnown nodes ds (told rows) s) (some_same (at st s) (first_state s is.0) x is.1 e) (first_known s is.0 low);
     table = r0.table;
   }
 
@@ -138,7 +134,7 @@ module _ (nodes : ℕ) (ds : List (Option PlaceView)) (st : List (Option Held)) 
         inboxes_many = ap (λ (q : PlaceView). length q.inboxes) is ∙ d0.inboxes_many p d0.one.1;
         one = subst (λ (o : Option PlaceView). IsSome o) (sym d0.one.1) refl;
         only = d0.only;
-        states = λ n low. at-shown st n ∙ ap (option_map known_of) (s0.each n low);
+        states = λ n low. at-shown st n ∙ ap (option_map known_of) (s0.each n low).1;
         none_else = λ n high. at-shown st n ∙ ap (option_map known_of) (s0.none n high);
         histories = r0.each;
         histories_many = r0.many;
@@ -212,11 +208,11 @@ shown_there : (st : List (Option Held)) (k : ℕ) (x : Held) → at st k ≡ Som
 shown_there st k x e = at-shown st k ∙ ap (option_map known_of) e
 
 -- one state more, in no dstate
-pub IsGraph-state : (nodes : ℕ) (ds : List (Option PlaceView)) (st new : List (Option Held)) (rows : List Row) (ps : List ℕ) (s n h : ℕ) → IsGraph nodes ds st rows ps
-    → at st s ≡ None → at new s ≡ Some (record { known = record { node = n; history = h; pinned = false }; dstates = [] }) → ((k : ℕ) → k ≢ s → at new k ≡ at st k) → n < nodes → IsHistoryOf (told rows) n h
+pub IsGraph-state : (nodes : ℕ) (ds : List (Option PlaceView)) (st new : List (Option Held)) (rows : List Row) (ps : List ℕ) (s n h capacity : ℕ) → IsGraph nodes ds st rows ps
+    → at st s ≡ None → at new s ≡ Some (record { known = record { node = n; history = h; pinned = false }; dstates = []; capacity = capacity }) → ((k : ℕ) → k ≢ s → at new k ≡ at st k) → n < nodes → IsHistoryOf (told rows) n h
     → IsGraph nodes ds new rows ps
-IsGraph-state nodes ds st new rows ps s n h g free there others low history =
-    let fresh : Held = record { known = record { node = n; history = h; pinned = false }; dstates = [] } in
+IsGraph-state nodes ds st new rows ps s n h capacity g free there others low history =
+    let fresh : Held = record { known = record { node = n; history = h; pinned = false }; dstates = []; capacity = capacity } in
     let none : at (shown st) s ≡ None = at-shown st s ∙ ap (option_map known_of) free in
     let known : IsKnown nodes ds (told rows) s fresh = record {
       node = low;
@@ -368,12 +364,12 @@ pub none_shown : (st : List (Option Held)) (seen : List (Option KnownView)) (lea
 none_shown st seen least is none = subst (λ (l : List (Option KnownView)). NoneFrom l least) is (λ j from. at-shown st j ∙ ap (option_map known_of) (none j from))
 
 -- what is seen of a graph with one state more
-pub has_new : (nodes : ℕ) (ds : List (Option PlaceView)) (ps : List ℕ) (g : GraphView) (st new : List (Option Held)) (rows later : List Row) (s n before h : ℕ) (entries : List Entry)
+pub has_new : (nodes : ℕ) (ds : List (Option PlaceView)) (ps : List ℕ) (g : GraphView) (st new : List (Option Held)) (rows later : List Row) (s n before h capacity : ℕ) (entries : List Entry)
     → record { nodes = nodes; dstates = ds; states = shown st; histories = told rows; packets = ps } ≡ g
-    → at st s ≡ None → at new s ≡ Some (record { known = record { node = n; history = h; pinned = false }; dstates = [] }) → ((k : ℕ) → k ≢ s → at new k ≡ at st k) → Extends (told rows) (told later)
+    → at st s ≡ None → at new s ≡ Some (record { known = record { node = n; history = h; pinned = false }; dstates = []; capacity = capacity }) → ((k : ℕ) → k ≢ s → at new k ≡ at st k) → Extends (told rows) (told later)
     → slice_get (told later) h ≡ Some (record { node = n; history = followed (history_in (told rows) before) (entries_history (told rows) entries) })
     → HasNew g (record { nodes = nodes; dstates = ds; states = shown new; histories = told later; packets = ps }) s n before entries
-has_new nodes ds ps g st new rows later s n before h entries is free there others grows tells =
+has_new nodes ds ps g st new rows later s n before h capacity entries is free there others grows tells =
     let after : GraphView = record { nodes = nodes; dstates = ds; states = shown new; histories = told later; packets = ps } in
     subst (λ (g : GraphView). HasNew g after s n before entries) is (record {
       was_free = at-shown st s ∙ ap (option_map known_of) free;

@@ -4,3 +4,7 @@ pub mod Growing
 pub mod Gathering
 pub mod Holding
 pub mod Choices
+pub mod Changing
+pub mod Weights
+pub mod Exchanging
+pub mod Replacing

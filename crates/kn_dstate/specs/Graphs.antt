@@ -95,10 +95,16 @@ pub record HasNew (old new : GraphView) (s node before : ℕ) (entries : List En
   pub grows : Extends old.histories new.histories
   pub rest : new ≡ record old { states = new.states; histories = new.histories }
 
--- a state as a graph keeps it: what is seen of it, and the numbers of the dstates that have it
+-- a state as a graph keeps it: what is seen of it, the numbers of the dstates that have it, and how many such numbers
+-- fit with no further memory
 pub record Held : Type 0 where
   pub known : KnownView
   pub dstates : List ℕ
+  pub capacity : ℕ
+
+-- node n's state in a new graph, which is in dstate 0
+abbrev pub first_state : ℕ → ℕ → Held
+first_state n capacity = record { known = record { node = n; history = n; pinned = false }; dstates = 0 ∷ []; capacity = capacity }
 
 -- what is seen of a state
 abbrev pub known_of : Held → KnownView

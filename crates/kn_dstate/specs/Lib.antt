@@ -4,3 +4,5 @@ pub mod Histories
 pub mod Places
 pub mod Graphs
 pub mod Gathered
+pub mod Members
+pub mod Changes

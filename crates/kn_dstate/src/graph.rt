@@ -4,9 +4,13 @@ ghost use Rattle.std.specs.Prelude.{◌≡◌, ◌<◌, ◌≤◌, ◌^◌, ◌�
 ghost use Rattle.kn_packet.specs.Histories.{history_cmp};
 ghost use Rattle.kn_dstate.specs.Histories.{history_in, IsHistoryOf, AllNameBelow};
 ghost use Rattle.kn_dstate.specs.Places.{column, inbox, holds, is_in, others, choices, AreDistinct};
-ghost use Rattle.kn_dstate.specs.Graphs.{HasState, HasDstate, state, dstate, with_state, IsPlaced, IsTarget, IsOpened, HasNew, Keeps, IsLowest, NoneFrom};
+ghost use Rattle.std.specs.List.{AllByRecursion};
+ghost use Rattle.kn_dstate.specs.Changes.{IsReplaced};
+ghost use Rattle.kn_dstate.specs.Graphs.{HasState, HasDstate, state, dstate, with_state, IsPlace, IsPlaced, IsTarget, IsOpened, HasNew, Keeps, IsLowest, NoneFrom};
 
+use crate::exchange::{put_all, take_all};
 use crate::known::Known;
+use crate::members::reserve_all;
 use crate::number::{DstateNo, HistoryNo, PacketNo, StateNo};
 use crate::opening::{open_dstates, open_states};
 use crate::order::cmp_rows;
@@ -210,6 +214,22 @@ impl Graph {
         ensures { result ≡ history_cmp (history_in self.now.histories a.0) (history_in self.now.histories b.0) }
     {
         cmp_rows(&self.rows, a.0, b.0)
+    }
+
+    /// Some dstates go, and others come. States of those that went that are then in no dstate go too, unless their
+    /// numbers are kept. Err is want of memory.
+    pub fn replace(&mut self, old: &[DstateNo], new: Vec<Place>) -> Result<(), AllocError>
+        requires there { (d : ℕ) → is_in d (map (λ x. x.0) old.now) ≡ true → HasDstate self.old d }
+        requires once { AreDistinct (map (λ x. x.0) old.now) }
+        requires fits { AllByRecursion (IsPlace self.old.nodes self.old.states self.old.packets) new.items }
+        ensures ok { OnOk result (IsReplaced self.old self.new (map (λ x. x.0) old.now) new.items) }
+        ensures err { OnErr result (self.new ≡ self.old) }
+    {
+        self.dstates.reserve(new.len())?;
+        reserve_all(&mut self.states, &new, new.len())?;
+        put_all(&mut self.dstates, &mut self.states, new);
+        take_all(&mut self.dstates, &mut self.states, old);
+        Ok(())
     }
 
     /// A new number, for a packet to a node. Err is want of memory.

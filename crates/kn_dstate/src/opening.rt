@@ -2,7 +2,7 @@
 
 ghost use Rattle.std.specs.Prelude.{◌≡◌, ◌<◌, ◌≤◌, ℕ, [], ◌∷◌, length, map, slice_get, Some, None, IfOk, false};
 ghost use Rattle.kn_dstate.specs.Places.{PlaceView};
-ghost use Rattle.kn_dstate.specs.Graphs.{at, Held};
+ghost use Rattle.kn_dstate.specs.Graphs.{at, Held, first_state};
 
 use crate::known::Known;
 use crate::number::{PacketNo, StateNo};
@@ -66,7 +66,7 @@ pub(crate) fn open_dstates(alloc: Global, nodes: usize) -> Result<Slab<Place>, A
 /// The states of a new graph: each node's under its number. The slab gives its first keys in order; since it does not
 /// promise to, another key is answered as want of memory.
 pub(crate) fn open_states(alloc: Global, nodes: u32) -> Result<Slab<Known>, AllocError>
-    ensures each { IfOk result (λ t. (n : ℕ) → n < nodes → at t.slots n ≡ Some (record { known = record { node = n; history = n; pinned = false }; dstates = 0 ∷ [] })) }
+    ensures each { IfOk result (λ t. (n : ℕ) → n < nodes → (capacity : ℕ) × (at t.slots n ≡ Some (first_state n capacity))) }
     ensures none { IfOk result (λ t. (n : ℕ) → nodes ≤ n → at t.slots n ≡ None) }
 {
     let mut states = Slab::new(alloc);

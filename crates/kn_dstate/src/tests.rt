@@ -62,3 +62,13 @@ fn adds_a_state(rt: HostRuntime) -> Result<(), Fail> {
     assert!(rt; graph.state_from(3).is_none());
     Ok(())
 }
+
+#[test]
+fn takes_a_dstate_away(rt: HostRuntime) -> Result<(), Fail> {
+    let mut graph = Graph::open(rt.alloc(), 3)?;
+    graph.pin(StateNo(1));
+    graph.replace(&[DstateNo(0)], Vec::new(rt.alloc()))?;
+    assert!(rt; graph.dstate_from(0).is_none());
+    assert!(rt; graph.state_from(0) == Some(StateNo(1)) && graph.state_from(2).is_none());
+    Ok(())
+}

@@ -18,7 +18,7 @@ invariant_of-self-in_err-history c =
     (IsGraph-rows inside.nodes inside.dstates.slots inside.states.slots inside.rows.items c.extend.new.rows.items inside.packets.items c.self.invariant c.extend.ensures.table c.extend.ensures.grows)
 
 -- the new state's slot
-slot : (c : goal.After-insert_reserved-key) → at c.insert_reserved-key.new.self.slots c.insert_reserved-key.result ≡ Some (record { known = record { node = c.args.node; history = c.in_ok-history.history; pinned = false }; dstates = [] })
+slot : (c : goal.After-insert_reserved-key) → at c.insert_reserved-key.new.self.slots c.insert_reserved-key.result ≡ Some (record { known = record { node = c.args.node; history = c.in_ok-history.history; pinned = false }; dstates = []; capacity = c.new.result.capacity })
 slot c = c.insert_reserved-key.ensures.updates.changed ∙ ap Some c.new.ensures
 
 -- was free, and the others are as they were
@@ -37,11 +37,11 @@ invariant_of-self-2 c =
     let inside = c.self.inside in
     let low : c.args.node < inside.nodes = omega (arith, ap (λ (g : GraphView). g.nodes) c.self.view_is, c.requires.node) in
     let grown = IsGraph-rows inside.nodes inside.dstates.slots inside.states.slots inside.rows.items c.extend.new.rows.items inside.packets.items c.self.invariant c.extend.ensures.table c.extend.ensures.grows in
-    IsGraph-state inside.nodes inside.dstates.slots inside.states.slots c.insert_reserved-key.new.self.slots c.extend.new.rows.items inside.packets.items c.insert_reserved-key.result c.args.node c.in_ok-history.history grown
+    IsGraph-state inside.nodes inside.dstates.slots inside.states.slots c.insert_reserved-key.new.self.slots c.extend.new.rows.items inside.packets.items c.insert_reserved-key.result c.args.node c.in_ok-history.history c.new.result.capacity grown
     (free c) (slot c) (others c) low (_, c.in_ok-history.ensures.tells)
 
 pub returns-clause-ok : goal.returns-clause-ok
 returns-clause-ok c =
     let inside = c.self.inside in
-    has_new inside.nodes inside.dstates.slots inside.packets.items c.args.self.now inside.states.slots c.insert_reserved-key.new.self.slots inside.rows.items c.extend.new.rows.items c.insert_reserved-key.result c.args.node c.args.parent.0 c.in_ok-history.history c.args.entries.now
+    has_new inside.nodes inside.dstates.slots inside.packets.items c.args.self.now inside.states.slots c.insert_reserved-key.new.self.slots inside.rows.items c.extend.new.rows.items c.insert_reserved-key.result c.args.node c.args.parent.0 c.in_ok-history.history c.new.result.capacity c.args.entries.now
     c.self.view_is (free c) (slot c) (others c) c.extend.ensures.grows c.in_ok-history.ensures.tells
