@@ -1,5 +1,5 @@
 -- Slots that changed one after another.
-use Rattle.std.proofs.Common.{◌≡◌, ◌≢◌, ℕ, zero, suc, ◌+◌, ◌<◌, Bool, true, false, cond, List, [], ◌∷◌, ◌++◌, length, ◌-◌, length-append, map, get_or, take, refl, ap, subst, sym, ◌∙◌, arith, Some, None, Option, inl, inr, eq-eqb}
+use Rattle.std.proofs.Common.{◌≡◌, ℕ, zero, suc, ◌+◌, ◌<◌, Bool, true, false, cond, List, [], ◌∷◌, ◌++◌, length, ◌-◌, length-append, map, get_or, take, refl, ap, subst, sym, ◌∙◌, arith, Some, None, Option, inl, inr, eq-eqb}
 use Rattle.std.specs.Prelude.{◌||◌, ◌&&◌, ◌⊎◌, nat_eq, not, slice_set, option_map}
 use Rattle.std.proofs.lemmas.Bool.{eqb-true}
 use Rattle.std.proofs.lemmas.List.{take_more, map-append}
@@ -22,21 +22,6 @@ became-more f once a b c old mid new is first then k = then k ∙ (go (a k) (b k
     go true false e = e
     go false true e = ap f e
     go false false e = e
-
-pub became-none : {A : Type 0} (f : Option A → Option A) (old : List (Option A)) → Became f (λ k. false) old old
-became-none f old k = refl
-
--- one slot was written
-pub became-set : {A : Type 0} (f : Option A → Option A) (s : ℕ) (old new : List (Option A)) → at new s ≡ f (at old s) → ((k : ℕ) → k ≢ s → at new k ≡ at old k) → Became f (λ k. nat_eq s k) old new
-became-set f s old new here others k = go (nat_eq s k) refl
-  where
-    go : (b : Bool) → nat_eq s k ≡ b → at new k ≡ cond b (f (at old k)) (at old k)
-    go true e = ap (at new) (sym (eqb-true s k e)) ∙ (here ∙ ap (λ (j : ℕ). f (at old j)) (eqb-true s k e))
-    go false e = others k (λ same. let bad : true ≡ false = sym (eq-eqb s k (sym same)) ∙ e in absurd cc)
-
--- nothing changed at a slot that the change leaves as it is
-pub became-same : {A : Type 0} (f : Option A → Option A) (s : ℕ) (old : List (Option A)) → f (at old s) ≡ at old s → Became f (λ k. nat_eq s k) old old
-became-same f s old is = became-set f s old old (sym is) (λ k other. refl)
 
 -- one number more of a list
 pub in_more : {V : Type 0} (f : V → ℕ) (xs : List V) (i : ℕ) (v : V) (k : ℕ) → i < length xs → is_in k (map f (take (i + 1) xs)) ≡ (is_in k (map f (take i xs)) || nat_eq (f (get_or xs i v)) k)

@@ -1,7 +1,7 @@
 -- Dstates that come and go, and the states that this leaves in none.
-use Rattle.std.specs.Prelude.{◌≡◌, ◌≢◌, ℕ, ◌+◌, true, false, if◌then◌else◌, List, [], ◌∷◌, ◌++◌, map, Option, None, Some, slice_set}
+use Rattle.std.specs.Prelude.{◌≡◌, ℕ, ◌+◌, true, false, List, [], ◌∷◌, ◌++◌, map, Option, None, Some}
 use Rattle.kn_built.specs.Picks.{SameItems}
-use Rattle.kn_dstate.specs.Places.{PlaceView, column, holds, is_in, others}
+use Rattle.kn_dstate.specs.Places.{PlaceView, is_in}
 use Rattle.kn_dstate.specs.Graphs.{KnownView, GraphView, HasDstate, at, dstate, IsHeld}
 
 -- the dstates, by rising number
@@ -36,26 +36,4 @@ pub record IsReplaced (old new : GraphView) (went : List ℕ) (came : List Place
   pub dstates : SameItems (somes new.dstates ++ map (dstate old) went) (somes old.dstates ++ came)
   pub stay : (d : ℕ) → HasDstate old d → is_in d went ≡ false → at new.dstates d ≡ at old.dstates d
   pub states : (k : ℕ) → IsSettled old new k
-  pub rest : new ≡ record old { dstates = new.dstates; states = new.states }
-
--- node n has this column instead
-abbrev pub with_column : ℕ → List ℕ → PlaceView → PlaceView
-with_column n c d = record d { columns = slice_set d.columns n c }
-
--- the dstate with this column of node n, unless that is empty
-abbrev pub unless_empty : ℕ → List ℕ → PlaceView → Option PlaceView
-unless_empty n [] d = None
-unless_empty n (x ∷ c) d = Some (with_column n (x ∷ c) d)
-
--- what comes of a slot where state s of node n leaves all dstates
-abbrev pub struck : ℕ → ℕ → Option PlaceView → Option PlaceView
-struck n s None = None
-struck n s (Some d) = if holds n s d then unless_empty n (others s (column d n)) d else Some d
-
--- a state of node n left all dstates and went, unless its number is kept
-pub record IsStruck (old new : GraphView) (s : ℕ) (x : KnownView) : Type 0 where
-  pub dstates : (d : ℕ) → at new.dstates d ≡ struck x.node s (at old.dstates d)
-  pub states : (k : ℕ) → k ≢ s → IsSettled old new k
-  pub kept : x.pinned ≡ true → at new.states s ≡ Some x
-  pub went : x.pinned ≡ false → at new.states s ≡ None
   pub rest : new ≡ record old { dstates = new.dstates; states = new.states }
