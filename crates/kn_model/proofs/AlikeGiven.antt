@@ -41,13 +41,13 @@ given_append (p ∷ ps) (q ∷ qs) us vs (inr h) i = inr (h.0, given_append (p �
 abbrev pub IsShut : Way Term → Type 0
 IsShut w = IsImpossible (that (w.state.own ++ w.literals))
 
-shut_kept : (here : Here Term) → Kept terms here IsShut
+pub shut_kept : (here : Here Term) → Kept terms here IsShut
 shut_kept here = kept_by terms here (λ bits literals trace own. IsImpossible (that (own ++ literals)))
 
 pub shut_longer : (c d : Condition) → IsImpossible (that c) → IsImpossible (that (c ++ d))
 shut_longer c d h a = holds_join a c d ∙ ap (λ (b : Bool). b && holds a d) (h a)
 
-shut_decided : (b : Bool) (l : Literal Term) (w : Way Term) → IsShut w → IsShut (decided terms b l w)
+pub shut_decided : (b : Bool) (l : Literal Term) (w : Way Term) → IsShut w → IsShut (decided terms b l w)
 shut_decided b l w h a = ap (holds a) (sym (append_assoc w.state.own w.literals (l ∷ []))) ∙ shut_longer (w.state.own ++ w.literals) (l ∷ []) h a
 
 pub shut_ways : (here : Here Term) → IsHere here → (fuel : ℕ) (w : Way Term) → IsShut w → AreGiven [] (map (path_of terms) (ways terms here fuel w))

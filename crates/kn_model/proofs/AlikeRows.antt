@@ -545,7 +545,7 @@ module _ {V W : Type 0} (k : Values V) (m : Values W) (R : V → W → Type 0) (
     from_alike None w w' h = (h, tt)
     from_alike (Some pc) w w' h = ways_alike fuel (record w { pc = pc }) (record w' { pc = pc }) (jumps pc w w' h)
 
-    runs_alike : (handler : ℕ) → Goes_alike (runs k here handler) (runs m there handler)
+    pub runs_alike : (handler : ℕ) → Goes_alike (runs k here handler) (runs m there handler)
     runs_alike handler = from_alike (slice_index_or code.handlers handler None)
 
     chooses_alike : (f j : Way V → List (Way V)) (f' j' : Way W → List (Way W)) → Goes_alike f f' → Goes_alike j j' → Goes_alike (chooses k here f j) (chooses m there f' j')
@@ -576,7 +576,7 @@ module _ {V W : Type 0} (k : Values V) (m : Values W) (R : V → W → Type 0) (
           own = s.own;
         })
 
-    arrives_alike : (p : Packet V) (p' : Packet W) → WaitsAlike R p p' → Goes_alike (arrives k here p) (arrives m there p')
+    pub arrives_alike : (p : Packet V) (p' : Packet W) → WaitsAlike R p p' → Goes_alike (arrives k here p) (arrives m there p')
     arrives_alike p p' r w w' h =
         by_alike _ _
         (ap (λ (z : Key). nat_eq z.copy 0 && not (nat_eq w.state.duplications 0)) r.key ∙ ap (λ (n : ℕ). nat_eq p'.copy 0 && not (nat_eq n 0)) h.state.duplications)

@@ -162,7 +162,7 @@ module _ {V : Type 0} (k : Values V) (here : Here V) (P : Way V → Type 0) (kee
   pub all_runs : (handler : ℕ) (w : Way V) → P w → All (runs k here handler w)
   all_runs handler w p = all_from (slice_index_or here.code.handlers handler None) w p
 
-  all_chooses : (stays takes : Way V → List (Way V)) (w : Way V) → P w → ((u : Way V) → P u → All (stays u)) → ((u : Way V) → P u → All (takes u)) → All (chooses k here stays takes w)
+  pub all_chooses : (stays takes : Way V → List (Way V)) (w : Way V) → P w → ((u : Way V) → P u → All (stays u)) → ((u : Way V) → P u → All (takes u)) → All (chooses k here stays takes w)
   all_chooses stays takes w p x y =
       all_by (nat_eq w.state.inputs 65535) stays (λ v. splits k (is_no k here v) stays (counted k v) takes (counted k v)) w (x w p)
       (all_splits (is_no k here w) stays (counted k w) takes (counted k w) (keeps.count w p) (keeps.count w p) x y)
