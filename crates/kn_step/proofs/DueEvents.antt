@@ -1,6 +1,6 @@
--- Due events of a node that neither loses packets nor is given any twice nor reboots, over what is kept of it.
+-- Due events of a node, over what is kept of it.
 use Rattle.std.proofs.Common.{◌≡◌, ℕ, ◌+◌, ◌<◌, ◌≤◌, Bool, true, false, cond, List, [], ◌∷◌, length, map, Option, Some, None, refl, ap, sym, subst, ◌∙◌, arith, lt-ltb}
-use Rattle.std.specs.Prelude.{nat_eq, not, ◌&&◌, ◌||◌, slice_set}
+use Rattle.std.specs.Prelude.{filter, nat_eq, not, ◌&&◌, ◌||◌, slice_set}
 use Rattle.kn_term.specs.declared.node.Node.{Node}
 use Rattle.kn_term.specs.Terms.{Term}
 use Rattle.kn_cond.specs.Conditions.{Condition}
@@ -15,15 +15,11 @@ use Rattle.kn_node.specs.Due as kept_due
 use Rattle.kn_model.specs.Terms.{terms}
 use Rattle.kn_model.specs.Packets.{Packet, first_at, without_first}
 use Rattle.kn_model.specs.Nodes.{State, is_running}
-use Rattle.kn_model.specs.Nets.{Network}
 use Rattle.kn_model.specs.Due.{due, or_else, mail_of as mail_event, timer_from, boot_due, is_open, is_set_to, has}
-use Rattle.kn_model.specs.Rows.{Here, Way}
-use Rattle.kn_model.specs.Paths.{goes_by, runs, chooses, doubled, with_loss, arrives, comes, event_ways, event_paths, here_at, first_way, begun, mail_in, path_of}
-use Rattle.kn_plan.specs.Nets.{links_of}
-use Rattle.kn_step.specs.Views.{packet_of, outcome_of, state_with}
-use Rattle.kn_step.specs.Effects.{mail_of, here_of}
-use Rattle.kn_step.specs.Answers.{IsPlainEvent, handler_of}
-use Rattle.kn_step.specs.declared.spot.Spot.{Spot}
+use Rattle.kn_model.specs.Paths.{begun, mail_in}
+use Rattle.kn_machine.specs.Views.{packet_of, outcome_of, state_with}
+use Rattle.kn_machine.specs.Effects.{mail_of}
+use Rattle.kn_step.specs.Answers.{IsSmall}
 
 -- the first packet of a queue, and the others
 pub first_seen : (t : ℕ) (q : List PacketView) → first_at t (map packet_of q) ≡ mail_of (kept.first_at t q)
@@ -75,91 +71,24 @@ same_due ticks t ns m trace own early =
     ∙ (ap (λ (e : Option Event). due_in runs_on boot (kept_due.has t m.reboots) (mail_event (mail_of (kept.first_at t m.queue))) e) (timers_seen t 0 m.timers)
     ∙ found_seen m.outcome boot (kept_due.has t m.reboots) (kept.first_at t m.queue) (kept_due.timer_from t 0 m.timers))))
 
--- a state whose node loses no packet, is given none twice and does not reboot
-pub record IsBare (s : State Term) : Type 0 where
-  pub losses : s.losses ≡ 0
-  pub duplications : s.duplications ≡ 0
-  pub reboots : s.reboots ≡ []
-
--- what is due of a bare state, by what is found
-bare_due : (ticks t : ℕ) (s : State Term) → IsBare s → due ticks t s ≡ due_in (is_open ticks t s) (boot_due t s) false (mail_event (first_at t s.queue)) (timer_from t 0 s.timers)
-bare_due ticks t s bare = ap (λ (rs : List ℕ). due_in (is_open ticks t s) (boot_due t s) (has t rs) (mail_event (first_at t s.queue)) (timer_from t 0 s.timers)) bare.reboots
-
--- where a packet is due, the queue has one that arrives
-pub mail_there : (ticks t : ℕ) (s : State Term) (from seq copy : ℕ) → IsBare s → due ticks t s ≡ Some (Mail from seq copy) → (p : Packet Term) × (first_at t s.queue ≡ Some p)
-mail_there ticks t s from seq copy bare is = go (is_open ticks t s) (boot_due t s) (first_at t s.queue) refl (sym (bare_due ticks t s bare) ∙ is)
+-- a due timer is one of eight
+pub due_small : (ticks t : ℕ) (s : State Term) (e : Event) → length s.timers ≤ 8 → due ticks t s ≡ Some e → IsSmall e
+due_small ticks t s e few is = go (is_open ticks t s) (boot_due t s) (has t s.reboots) (first_at t s.queue) is
   where
-    timers : (k : ℕ) (os : List (Option ℕ)) → timer_from t k os ≡ Some (Mail from seq copy) → ⊥
-    timers k [] e = absurd cc
-    timers k (o ∷ os) e = pick (is_set_to t o) e (timers (k + 1) os)
-      where
-        pick : (b : Bool) → cond b (Some (Timer k)) (timer_from t (k + 1) os) ≡ Some (Mail from seq copy) → (timer_from t (k + 1) os ≡ Some (Mail from seq copy) → ⊥) → ⊥
-        pick true h rest = absurd cc
-        pick false h rest = rest h
-
-    go : (runs_on boot : Bool) (o : Option (Packet Term)) → first_at t s.queue ≡ o → due_in runs_on boot false (mail_event o) (timer_from t 0 s.timers) ≡ Some (Mail from seq copy) → (p : Packet Term) × (first_at t s.queue ≡ Some p)
-    go false boot o first h = absurd cc
-    go true true o first h = absurd cc
-    go true false None first h = absurd (timers 0 s.timers h)
-    go true false (Some p) first h = (p, first)
-
--- no reboot is due, and the timer is one of eight
-pub due_plain : (ticks t : ℕ) (s : State Term) (e : Event) → IsBare s → length s.timers ≤ 8 → due ticks t s ≡ Some e → IsPlainEvent e
-due_plain ticks t s e bare few is = go (is_open ticks t s) (boot_due t s) (first_at t s.queue) (sym (bare_due ticks t s bare) ∙ is)
-  where
-    timers : (k : ℕ) (os : List (Option ℕ)) → k + length os ≤ 8 → timer_from t k os ≡ Some e → IsPlainEvent e
+    timers : (k : ℕ) (os : List (Option ℕ)) → k + length os ≤ 8 → timer_from t k os ≡ Some e → IsSmall e
     timers k [] few h = absurd cc
     timers k (o ∷ os) few h = pick (is_set_to t o) h (timers (k + 1) os (omega (arith, few)))
       where
-        pick : (b : Bool) → cond b (Some (Timer k)) (timer_from t (k + 1) os) ≡ Some e → (timer_from t (k + 1) os ≡ Some e → IsPlainEvent e) → IsPlainEvent e
-        pick true h rest = let same : Timer k ≡ e = cc in let low : k < 8 = omega (arith, few) in subst IsPlainEvent same low
+        pick : (b : Bool) → cond b (Some (Timer k)) (timer_from t (k + 1) os) ≡ Some e → (timer_from t (k + 1) os ≡ Some e → IsSmall e) → IsSmall e
+        pick true h rest = let same : Timer k ≡ e = cc in let low : k < 8 = omega (arith, few) in subst IsSmall same low
         pick false h rest = rest h
 
-    go : (runs_on boot : Bool) (o : Option (Packet Term)) → due_in runs_on boot false (mail_event o) (timer_from t 0 s.timers) ≡ Some e → IsPlainEvent e
-    go false boot o h = absurd cc
-    go true true o h = let same : Boot ≡ e = cc in subst IsPlainEvent same tt
-    go true false None h = timers 0 s.timers (omega (arith, few)) h
-    go true false (Some p) h = let same : Mail p.from p.seq p.copy ≡ e = cc in subst IsPlainEvent same tt
-
-and_false : (a : Bool) → a && false ≡ false
-and_false true = refl
-and_false false = refl
-
--- a packet is neither lost nor doubled: its handler runs
-comes_bare : (here : Here Term) (p : Packet Term) (w : Way Term) → IsBare w.state → comes terms here (Some p) w ≡ runs terms here 1 w
-comes_bare here p w bare =
-    let doubling = chooses terms here (runs terms here 1) (λ v. runs terms here 1 (doubled terms here p v)) in
-    ap (λ (n : ℕ). goes_by (nat_eq n 0) (arrives terms here p) (chooses terms here (arrives terms here p) (λ v. with_loss terms v ∷ [])) w) bare.losses
-    ∙ ap (λ (n : ℕ). goes_by (nat_eq p.copy 0 && not (nat_eq n 0)) doubling (runs terms here 1) w) bare.duplications
-    ∙ ap (λ (b : Bool). goes_by b doubling (runs terms here 1) w) (and_false (nat_eq p.copy 0))
-
--- the ways of an event are those of its handler
-ways_bare : (here : Here Term) (e : Event) (w : Way Term) → IsPlainEvent e → IsBare w.state → ((from seq copy : ℕ) → e ≡ Mail from seq copy → (p : Packet Term) × (here.mail ≡ Some p)) → event_ways terms here e w ≡ runs terms here (handler_of e) w
-ways_bare here Boot w plain bare mail = refl
-ways_bare here Reboot w plain bare mail = absurd plain
-ways_bare here (Mail from seq copy) w plain bare mail = let p = mail from seq copy refl in ap (λ (o : Option (Packet Term)). comes terms here o w) p.1 ∙ comes_bare here p.0 w bare
-ways_bare here (Timer number) w plain bare mail = refl
-
--- what begins an event leaves a state bare
-begun_bare : (t : ℕ) (e : Event) (s : State Term) → IsPlainEvent e → IsBare s → IsBare (begun terms t e s)
-begun_bare t Boot s plain bare = record { losses = bare.losses; duplications = bare.duplications; reboots = bare.reboots }
-begun_bare t Reboot s plain bare = absurd plain
-begun_bare t (Mail from seq copy) s plain bare = record { losses = bare.losses; duplications = bare.duplications; reboots = bare.reboots }
-begun_bare t (Timer number) s plain bare = record { losses = bare.losses; duplications = bare.duplications; reboots = bare.reboots }
-
--- the paths of a due event are those of the ways of its handler
-pub handler_paths : (net : Network) (spot : Spot) (e : Event) (s : State Term) → IsBare s → IsPlainEvent e → due net.limits.ticks spot.tick s ≡ Some e → spot.links.items ≡ links_of net spot.node → mail_of spot.mail ≡ mail_in terms e spot.tick s
-    → event_paths terms net spot.node spot.tick e s ≡ map (path_of terms) (runs terms (here_of net spot) (handler_of e) (first_way terms (begun terms spot.tick e s)))
-handler_paths net spot e s bare plain is links mail =
-    let w = first_way terms (begun terms spot.tick e s) in
-    let same : here_at terms net spot.node spot.tick e s ≡ here_of net spot = rw (links, mail) refl in
-    ap (λ (h : Here Term). map (path_of terms) (event_ways terms h e w)) same
-    ∙ ap (map (path_of terms)) (ways_bare (here_of net spot) e w plain (begun_bare spot.tick e s plain bare) there)
-  where
-    there : (from seq copy : ℕ) → e ≡ Mail from seq copy → (p : Packet Term) × ((here_of net spot).mail ≡ Some p)
-    there from seq copy packet =
-        let due_mail = mail_there net.limits.ticks spot.tick s from seq copy bare (is ∙ ap (λ (x : Event). Some x) packet) in
-        (due_mail.0, mail ∙ ap (λ (x : Event). mail_in terms x spot.tick s) packet ∙ due_mail.1)
+    go : (runs_on boot again : Bool) (o : Option (Packet Term)) → due_in runs_on boot again (mail_event o) (timer_from t 0 s.timers) ≡ Some e → IsSmall e
+    go false boot again o h = absurd cc
+    go true true again o h = let same : Boot ≡ e = cc in subst IsSmall same tt
+    go true false true o h = let same : Reboot ≡ e = cc in subst IsSmall same tt
+    go true false false None h = timers 0 s.timers (omega (arith, few)) h
+    go true false false (Some p) h = let same : Mail p.from p.seq p.copy ≡ e = cc in subst IsSmall same tt
 
 -- what begins an event, on what is kept
 abbrev pub Begins : ℕ → Event → MachineView → MachineView → Type 0
@@ -170,6 +99,9 @@ begun_as t e f m after is h = subst (λ (x : Event). Begins t x m after) (sym is
 
 pub begun_boot : (t : ℕ) (e : Event) (m after : MachineView) → e ≡ Boot → after ≡ record m { booted = true } → Begins t e m after
 begun_boot t e m after is new = begun_as t e Boot m after is (λ ns trace own. ap (λ (x : MachineView). state_with ns x trace own) new)
+
+pub begun_reboot : (t : ℕ) (e : Event) (m after : MachineView) → e ≡ Reboot → after ≡ record m { reboots = filter (λ x. not (nat_eq x t)) m.reboots } → Begins t e m after
+begun_reboot t e m after is new = begun_as t e Reboot m after is (λ ns trace own. ap (λ (x : MachineView). state_with ns x trace own) new)
 
 pub begun_mail : (t from seq copy : ℕ) (e : Event) (m after : MachineView) → e ≡ Mail from seq copy → after ≡ record m { queue = kept.without_first_at t m.queue } → Begins t e m after
 begun_mail t from seq copy e m after is new = begun_as t e (Mail from seq copy) m after is (λ ns trace own. ap (λ (x : MachineView). state_with ns x trace own) new ∙ ap (λ (q : List (Packet Term)). record (state_with ns m trace own) { queue = q }) (others_seen t m.queue))

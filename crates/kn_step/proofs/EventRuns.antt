@@ -1,6 +1,6 @@
 -- What the run of an event's handler gives of the event.
-use Rattle.std.proofs.Common.{◌≡◌, ℕ, ◌<◌, ◌≤◌, List, [], ◌∷◌, length, map, Option, Some, None, Ok, Err, refl, ap, sym, subst, ◌∙◌, append-nil, ◌^◌, arith}
-use Rattle.std.specs.Prelude.{⊤, Result, OnOk, slice_index_or}
+use Rattle.std.proofs.Common.{◌≡◌, ℕ, ◌<◌, ◌≤◌, List, [], ◌∷◌, length, map, Option, Some, Ok, Err, refl, ap, sym, subst, ◌∙◌, append-nil, ◌^◌, arith}
+use Rattle.std.specs.Prelude.{⊤, Result, OnOk}
 use Rattle.std.specs.List.{AllByRecursion}
 use Rattle.kn_term.specs.Terms.{Term}
 use Rattle.kn_packet.specs.declared.packet.Event.{Event}
@@ -10,23 +10,24 @@ use Rattle.kn_plan.specs.Files.{File, IsFile}
 use Rattle.kn_model.specs.Terms.{terms}
 use Rattle.kn_model.specs.Packets.{Packet}
 use Rattle.kn_model.specs.Nodes.{State}
-use Rattle.kn_model.specs.Nets.{Network, code_of, links_of}
+use Rattle.kn_model.specs.Nets.{Network, links_of}
 use Rattle.kn_model.specs.Due.{due}
 use Rattle.kn_model.specs.Laws.{IsNet}
-use Rattle.kn_model.specs.Rows.{Way, jump, sender_of}
-use Rattle.kn_model.specs.Paths.{Path, event_paths, runs_from, first_way, begun, mail_in, path_of}
+use Rattle.kn_model.specs.Rows.{Here, Way, sender_of}
+use Rattle.kn_model.specs.Paths.{Path, event_paths, event_ways, first_way, begun, here_at, mail_in}
 use Rattle.kn_model.specs.Alikes.{AreGiven}
-use Rattle.kn_step.specs.Views.{packet_of, state_with, state_of, own_of}
-use Rattle.kn_step.specs.Ways.{WayView, way_of, AreStamped}
-use Rattle.kn_step.specs.Effects.{mail_of, here_of, IsIn}
-use Rattle.kn_step.specs.Paths.{PathView, path_seen}
-use Rattle.kn_step.specs.Given.{onward, AreGivenSoFar, AreKept}
+use Rattle.kn_machine.specs.Views.{packet_of, state_with, state_of, own_of}
+use Rattle.kn_machine.specs.Ways.{WayView, way_of, AreStamped}
+use Rattle.kn_machine.specs.Effects.{mail_of, here_of, IsIn}
+use Rattle.kn_machine.specs.Paths.{PathView, path_seen}
+use Rattle.kn_step.specs.Given.{AreGivenSoFar, AreKept}
+use Rattle.kn_step.specs.Choices.{CameBehind, paths_by}
 use Rattle.kn_step.specs.Turns.{OnTooMany, UnlessMemory}
-use Rattle.kn_step.specs.Answers.{IsReady, AreRun, AreTooMany, IsPlainEvent, handler_of, paths_from}
-use Rattle.kn_step.specs.declared.spot.Spot.{Spot}
+use Rattle.kn_step.specs.Answers.{IsReady, AreRun, AreTooMany, IsSmall, paths_from}
+use Rattle.kn_machine.specs.declared.spot.Spot.{Spot}
 use Rattle.kn_step.specs.declared.run.RunStop.{RunStop}
 use Rattle.kn_step.specs.declared.run.RunStop.TheVariants as stops
-use Rattle.kn_step.proofs.DueEvents.{IsBare, Begins, Mails, due_plain, handler_paths}
+use Rattle.kn_step.proofs.DueEvents.{Begins, Mails, due_small}
 use Rattle.kn_step.proofs.SoundNets.{sender_fits, spot_in}
 
 pub empty : {A : Type 0} (xs : List A) → length xs ≡ 0 → xs ≡ []
@@ -37,26 +38,6 @@ empty (x ∷ xs) e = absurd cc
 pub none_stamped : (node history : ℕ) (ps : List PacketView) → map packet_of ps ≡ [] → AreStamped node history ps
 none_stamped node history [] e = tt
 none_stamped node history (p ∷ ps) e = absurd cc
-
-pub ready_bare : (net : Network) (tick : ℕ) (c : ConfigView) → IsReady net tick c → IsBare (state_of c)
-ready_bare net tick c r = record { losses = r.losses; duplications = r.duplications; reboots = r.reboots }
-
--- the paths of a due event, where its handler begins at an instruction, and where it is absent
-pub entry_paths : (net : Network) (spot : Spot) (e : Event) (s : State Term) (entry : ℕ) (w : Way Term) → IsBare s → IsPlainEvent e → due net.limits.ticks spot.tick s ≡ Some e → spot.links.items ≡ links_of net spot.node → mail_of spot.mail ≡ mail_in terms e spot.tick s
-    → slice_index_or (code_of net spot.node).handlers (handler_of e) None ≡ Some entry → w ≡ jump terms (first_way terms (begun terms spot.tick e s)) entry
-    → event_paths terms net spot.node spot.tick e s ≡ onward (here_of net spot) net.limits.fuel w
-entry_paths net spot e s entry w bare plain is links mail there way =
-    handler_paths net spot e s bare plain is links mail
-    ∙ (ap (λ (o : Option ℕ). map (path_of terms) (runs_from terms (here_of net spot) o (first_way terms (begun terms spot.tick e s)))) there
-    ∙ ap (onward (here_of net spot) net.limits.fuel) (sym way))
-
-pub absent_paths : (net : Network) (spot : Spot) (e : Event) (s : State Term) (w : Way Term) → IsBare s → IsPlainEvent e → due net.limits.ticks spot.tick s ≡ Some e → spot.links.items ≡ links_of net spot.node → mail_of spot.mail ≡ mail_in terms e spot.tick s
-    → slice_index_or (code_of net spot.node).handlers (handler_of e) None ≡ None → w ≡ first_way terms (begun terms spot.tick e s)
-    → event_paths terms net spot.node spot.tick e s ≡ path_of terms w ∷ []
-absent_paths net spot e s w bare plain is links mail there way =
-    handler_paths net spot e s bare plain is links mail
-    ∙ (ap (λ (o : Option ℕ). map (path_of terms) (runs_from terms (here_of net spot) o (first_way terms (begun terms spot.tick e s)))) there
-    ∙ ap (λ (v : Way Term). path_of terms v ∷ []) (sym way))
 
 -- what is given unless memory is wanting
 pub given_ok : (r : Result ⊤ RunStop) (ps qs : List (Path Term)) → UnlessMemory r (AreGiven ps qs) → OnOk r (AreGiven ps qs)
@@ -80,14 +61,10 @@ module _ (net : Network) (tick : ℕ) (c : ConfigView) (e : Event) (ps : List Pa
   too_many (Err stops.TooMany) is same given kept many = record { due = is; given = subst (AreGivenSoFar (map path_seen ps)) (sym same) given; kept = kept; many = many }
   too_many (Err (stops.Memory x)) is same given kept many = tt
 
--- The same where the event is run from an equal state, at a place with its node and tick.
-module _ (net : Network) (spot : Spot) (tick : ℕ) (c v : ConfigView) (e : Event) (w : Way Term) (equal : v ≡ c) (node : spot.node ≡ v.node) (at : spot.tick ≡ tick) (ready : IsReady net tick c) (plain : IsPlainEvent e)
-    (is : due net.limits.ticks tick (state_of c) ≡ Some e) (links : spot.links.items ≡ links_of net spot.node) (mail : mail_of spot.mail ≡ mail_in terms e tick (state_of v)) where
+-- The paths of an event are those of its ways, where it is run from an equal state, at a place with its node and tick.
+module _ (net : Network) (spot : Spot) (tick : ℕ) (c v : ConfigView) (e : Event) (w : Way Term) (equal : v ≡ c) (node : spot.node ≡ v.node) (at : spot.tick ≡ tick) (links : spot.links.items ≡ links_of net spot.node) (mail : mail_of spot.mail ≡ mail_in terms e tick (state_of v)) where
   mail_at : mail_of spot.mail ≡ mail_in terms e spot.tick (state_of c)
   mail_at = mail ∙ (ap (λ (u : ConfigView). mail_in terms e tick (state_of u)) equal ∙ ap (λ (t : ℕ). mail_in terms e t (state_of c)) (sym at))
-
-  due_at : due net.limits.ticks spot.tick (state_of c) ≡ Some e
-  due_at = ap (λ (t : ℕ). due net.limits.ticks t (state_of c)) at ∙ is
 
   first_at : first_way terms (begun terms tick e (state_of v)) ≡ first_way terms (begun terms spot.tick e (state_of c))
   first_at = ap (λ (u : ConfigView). first_way terms (begun terms tick e (state_of u))) equal ∙ ap (λ (t : ℕ). first_way terms (begun terms t e (state_of c))) (sym at)
@@ -95,21 +72,20 @@ module _ (net : Network) (spot : Spot) (tick : ℕ) (c v : ConfigView) (e : Even
   paths_at : paths_from net tick e c ≡ event_paths terms net spot.node spot.tick e (state_of c)
   paths_at = ap (λ (n : ℕ). event_paths terms net n tick e (state_of c)) (sym (node ∙ ap (λ (u : ConfigView). u.node) equal)) ∙ ap (λ (t : ℕ). event_paths terms net spot.node t e (state_of c)) (sym at)
 
-  pub entry_from : (entry fuel : ℕ) → fuel ≡ net.limits.fuel → slice_index_or (code_of net spot.node).handlers (handler_of e) None ≡ Some entry → w ≡ jump terms (first_way terms (begun terms tick e (state_of v))) entry
-      → paths_from net tick e c ≡ onward (here_of net spot) fuel w
-  entry_from entry fuel same there way =
+  here_is : here_at terms net spot.node spot.tick e (state_of c) ≡ here_of net spot
+  here_is = rw (links, mail_at) refl
+
+  pub event_from : w ≡ first_way terms (begun terms tick e (state_of v)) → paths_from net tick e c ≡ paths_by (event_ways terms (here_of net spot) e) w
+  event_from way =
       paths_at
-      ∙ (entry_paths net spot e (state_of c) entry w (ready_bare net tick c ready) plain due_at links mail_at there (way ∙ ap (λ (u : Way Term). jump terms u entry) first_at)
-      ∙ ap (λ (f : ℕ). onward (here_of net spot) f w) (sym same))
+      ∙ (ap (λ (h : Here Term). paths_by (event_ways terms h e) (first_way terms (begun terms spot.tick e (state_of c)))) here_is
+      ∙ ap (paths_by (event_ways terms (here_of net spot) e)) (sym (way ∙ first_at)))
 
-  pub absent_from : slice_index_or (code_of net spot.node).handlers (handler_of e) None ≡ None → w ≡ first_way terms (begun terms tick e (state_of v)) → paths_from net tick e c ≡ path_of terms w ∷ []
-  absent_from there way = paths_at ∙ absent_paths net spot e (state_of c) w (ready_bare net tick c ready) plain due_at links mail_at there (way ∙ first_at)
-
--- the event is a plain one
-pub plain_at : (net : Network) (tick : ℕ) (c v : ConfigView) (e : Event) → v ≡ c → IsReady net tick c → due net.limits.ticks tick (state_of c) ≡ Some e → length v.machine.timers ≡ 8 → IsPlainEvent e
-plain_at net tick c v e equal ready is eight =
+-- the event's timer is one of eight
+pub small_at : (net : Network) (tick : ℕ) (c v : ConfigView) (e : Event) → v ≡ c → due net.limits.ticks tick (state_of c) ≡ Some e → length v.machine.timers ≡ 8 → IsSmall e
+small_at net tick c v e equal is eight =
     let timers : length c.machine.timers ≡ 8 = subst (λ (u : ConfigView). length u.machine.timers ≡ 8) equal eight in
-    due_plain net.limits.ticks tick (state_of c) e (ready_bare net tick c ready) (omega (arith, timers)) is
+    due_small net.limits.ticks tick (state_of c) e (omega (arith, timers)) is
 
 -- and where it runs is in range
 pub place_in : (file : File) (spot : Spot) (tick : ℕ) (c v k : ConfigView) (e : Event) → IsFile file → IsNet file.network → v ≡ c → k ≡ c → IsReady file.network tick c → spot.node ≡ v.node → spot.tick ≡ tick → spot.links.items ≡ links_of file.network spot.node → Mails tick e k.machine spot.mail → IsIn file.network spot
@@ -133,21 +109,21 @@ pub mail_of_equal : (tick : ℕ) (e : Event) (v k : ConfigView) (o : Option Pack
 mail_of_equal tick e v k o equal mails = mails k.terms k.trace (own_of k) ∙ ap (λ (u : ConfigView). mail_in terms e tick (state_of u)) equal
 
 -- what a run from no paths gives
-module _ (net : Network) (tick : ℕ) (c v : ConfigView) (e : Event) (old ps : List PathView) (qs : List (Path Term)) (equal : v ≡ c) (none : length old ≡ 0) (is : due net.limits.ticks tick (state_of c) ≡ Some e) (same : paths_from net tick e c ≡ qs) where
-  abbrev KeptAt : ConfigView → List PathView → Type 0
-  KeptAt u us = AreKept net.limits.conflicts u.node u.history us
-
+module _ (net : Network) (spot : Spot) (tick : ℕ) (c : ConfigView) (e : Event) (old ps : List PathView) (qs : List (Path Term)) (node : spot.node ≡ c.node) (history : spot.history ≡ c.history) (none : length old ≡ 0) (is : due net.limits.ticks tick (state_of c) ≡ Some e) (same : paths_from net tick e c ≡ qs)
+    (r : Result ⊤ RunStop) (came : CameBehind net spot old ps qs r) where
   nothing : old ≡ []
   nothing = empty old none
-
-  kept_from : (r : Result ⊤ RunStop) → (KeptAt v old → UnlessMemory r (KeptAt v ps)) → UnlessMemory r (KeptAt c ps)
-  kept_from r kept = subst (λ (u : ConfigView). UnlessMemory r (KeptAt u ps)) equal (kept (subst (KeptAt v) (sym nothing) tt))
 
   start : AreGiven (map path_seen old) []
   start = subst (λ (us : List PathView). AreGiven (map path_seen us) []) (sym nothing) tt
 
-  pub run_from_none : (r : Result ⊤ RunStop) → (AreGiven (map path_seen old) [] → OnOk r (AreGiven (map path_seen ps) qs)) → (KeptAt v old → UnlessMemory r (KeptAt v ps)) → OnOk r (length ps ≤ net.limits.states) → OnOk r (AreRun net tick c e ps)
-  run_from_none r given kept few = all_run net tick c e ps qs r is same (given start) (kept_from r kept) few
+  kept : UnlessMemory r (AreKept net.limits.conflicts c.node c.history ps)
+  kept =
+      subst (λ (n : ℕ). UnlessMemory r (AreKept net.limits.conflicts n c.history ps)) node
+      (subst (λ (h : ℕ). UnlessMemory r (AreKept net.limits.conflicts spot.node h ps)) history (came.kept (subst (AreKept net.limits.conflicts spot.node spot.history) (sym nothing) tt)))
 
-  pub many_from_none : (r : Result ⊤ RunStop) → (AreGiven (map path_seen old) [] → OnTooMany r (AreGivenSoFar (map path_seen ps) qs)) → (KeptAt v old → UnlessMemory r (KeptAt v ps)) → OnTooMany r (net.limits.states < length ps) → OnTooMany r (AreTooMany net tick c e ps)
-  many_from_none r given kept many = too_many net tick c e ps qs r is same (given start) (kept_from r kept) many
+  pub run_from_none : OnOk r (AreRun net tick c e ps)
+  run_from_none = all_run net tick c e ps qs r is same (came.given [] start) kept came.few
+
+  pub many_from_none : OnTooMany r (AreTooMany net tick c e ps)
+  many_from_none = too_many net tick c e ps qs r is same (came.so_far [] start) kept came.many

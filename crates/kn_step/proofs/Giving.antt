@@ -10,14 +10,14 @@ use Rattle.kn_model.specs.Paths.{Path, path_of}
 use Rattle.kn_model.specs.Alikes.{AlikePath, AreGiven}
 use Rattle.kn_model.proofs.Lists.{all-append}
 use Rattle.kn_model.proofs.AlikeGiven.{given_append}
-use Rattle.kn_step.specs.Views.{own_of}
-use Rattle.kn_step.specs.Ways.{WayView, known_of, AreStamped}
-use Rattle.kn_step.specs.Paths.{PathView, path_seen}
+use Rattle.kn_machine.specs.Views.{own_of}
+use Rattle.kn_machine.specs.Ways.{WayView, known_of, AreStamped}
+use Rattle.kn_machine.specs.Paths.{PathView, path_seen}
 use Rattle.kn_step.specs.Given.{Leads, AreGivenSoFar, IsKept, AreKept}
 use Rattle.std.specs.Prelude.{⊤, Result, OnOk}
 use Rattle.kn_model.specs.Nets.{Network}
 use Rattle.kn_step.specs.Turns.{IsSound, IsStretch, OnTooMany, UnlessMemory}
-use Rattle.kn_step.specs.declared.spot.Spot.{Spot}
+use Rattle.kn_machine.specs.declared.spot.Spot.{Spot}
 use Rattle.kn_step.specs.declared.run.Stretch.{Stretch}
 use Rattle.kn_step.specs.declared.run.RunStop.{RunStop}
 use Rattle.kn_step.specs.declared.run.RunStop.TheVariants as stops

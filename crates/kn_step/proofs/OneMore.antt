@@ -18,7 +18,7 @@ use Rattle.kn_solve.specs.declared.judge.Judged.{Judged}
 use Rattle.kn_model.specs.Alikes.{ConditionAlike}
 use Rattle.kn_model.proofs.AlikeTerms.{holds_join, joins, condition_self, condition_through}
 use Rattle.kn_model.proofs.JoinedQuery.{reads_append}
-use Rattle.kn_step.specs.Ways.{IsWay, before_of}
+use Rattle.kn_machine.specs.Ways.{IsWay, before_of}
 use Rattle.kn_step.specs.Sides.{Implies, AreSides}
 use Rattle.kn_step.specs.declared.deciding.Sides.{Sides}
 use Rattle.kn_step.specs.declared.deciding.Sides.TheVariants as sides

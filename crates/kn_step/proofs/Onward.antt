@@ -1,40 +1,24 @@
 -- The paths that ways lead to, from alike ways.
-use Rattle.std.proofs.Common.{◌≡◌, ℕ, zero, suc, Bool, true, false, List, [], ◌∷◌, ◌++◌, map, Option, Some, None, refl, ap, sym, subst, ◌∙◌}
+use Rattle.std.proofs.Common.{◌≡◌, ℕ, zero, suc, Bool, true, false, List, [], ◌∷◌, ◌++◌, map, Option, Some, None, ap, sym, subst, ◌∙◌}
 use Rattle.std.specs.Prelude.{slice_get}
 use Rattle.std.proofs.lemmas.List.{map-append}
 use Rattle.kn_code.specs.declared.program.Instr.{Instr}
 use Rattle.kn_term.specs.Terms.{Term}
 use Rattle.kn_model.specs.Values.{Literal, negated}
 use Rattle.kn_model.specs.Terms.{terms}
-use Rattle.kn_model.specs.Packets.{Packet}
 use Rattle.kn_model.specs.Nodes.{Fuel, is_running}
 use Rattle.kn_model.specs.Nets.{Network}
 use Rattle.kn_model.specs.Rows.{Here, Way, Effect, Goes, Stops, Decides, effect, failed}
 use Rattle.kn_model.specs.Paths.{Path, ways, path_of, decided, after, effect_of, effect_at, goes_by, one_way}
-use Rattle.kn_model.specs.Alikes.{OneByOne, TermAlike, ConditionAlike, AlikePath, AlikeSend}
-use Rattle.kn_model.proofs.OneByOne.{pairs-self, pairs-map, pairs-append}
-use Rattle.kn_model.proofs.AlikeRows.{MailAlike, ways_alike, path_alike, decides}
-use Rattle.kn_model.proofs.AlikeTerms.{keeps_terms, alike_self, condition_self, send_self, waits_self, given_on}
-use Rattle.kn_step.specs.Ways.{AlikeWay}
-use Rattle.kn_step.specs.Effects.{here_of, AlikeEffect}
+use Rattle.kn_model.specs.Alikes.{OneByOne, TermAlike, ConditionAlike, AlikePath}
+use Rattle.kn_model.proofs.OneByOne.{pairs-map, pairs-append}
+use Rattle.kn_model.proofs.AlikeRows.{decides}
+use Rattle.kn_model.proofs.AlikeTerms.{keeps_terms, given_on}
+use Rattle.kn_machine.specs.Ways.{AlikeWay}
+use Rattle.kn_machine.specs.Effects.{here_of, AlikeEffect}
+use Rattle.kn_machine.proofs.Likeness.{mail_self, ways_on, path_on}
 use Rattle.kn_step.specs.Given.{onward, Leads}
-use Rattle.kn_step.specs.declared.spot.Spot.{Spot}
-
-pub mail_self : (o : Option (Packet Term)) → MailAlike TermAlike ConditionAlike o o
-mail_self None = tt
-mail_self (Some p) = waits_self p
-
--- a way is alike to itself
-pub way_self : (w : Way Term) → AlikeWay w w
-way_self w = record { state = alike_self w.state; pc = refl; bits = refl; literals = condition_self w.literals; sends = pairs-self AlikeSend send_self w.sends }
-
-pub ways_on : (net : Network) (spot : Spot) (fuel : ℕ) (w v : Way Term) → AlikeWay w v → OneByOne AlikeWay (ways terms (here_of net spot) fuel w) (ways terms (here_of net spot) fuel v)
-ways_on net spot fuel w v h =
-    let here = here_of net spot in
-    ways_alike terms terms TermAlike ConditionAlike ConditionAlike keeps_terms here.node here.tick here.code here.links here.fuel here.mail here.mail (mail_self here.mail) fuel w v h
-
-pub path_on : (w v : Way Term) → AlikeWay w v → AlikePath (path_of terms w) (path_of terms v)
-path_on w v h = path_alike terms terms TermAlike ConditionAlike ConditionAlike keeps_terms w v h
+use Rattle.kn_machine.specs.declared.spot.Spot.{Spot}
 
 -- alike ways lead to alike paths
 pub onward_alike : (net : Network) (spot : Spot) (fuel : ℕ) (w v : Way Term) → AlikeWay w v → OneByOne AlikePath (onward (here_of net spot) fuel w) (onward (here_of net spot) fuel v)

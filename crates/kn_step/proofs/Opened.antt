@@ -1,5 +1,5 @@
 -- A node at its start is ready for its boot.
-use Rattle.std.proofs.Common.{◌≡◌, ℕ, ◌<◌, List, [], ◌∷◌, length, refl, sym, ap, subst, ◌∙◌}
+use Rattle.std.proofs.Common.{◌≡◌, ℕ, ◌<◌, List, [], ◌∷◌, length, refl, sym, subst, ◌∙◌}
 use Rattle.std.specs.Prelude.{Some, None}
 use Rattle.std.specs.List.{AllByRecursion}
 use Rattle.kn_cond.specs.Conditions.{StandsFor, that, AreWords, ComesBefore}
@@ -12,7 +12,7 @@ use Rattle.kn_term.specs.declared.node.Literal.{Literal}
 use Rattle.kn_node.specs.Views.{ConfigView, MachineView}
 use Rattle.kn_node.specs.Opening.{IsOpened}
 use Rattle.kn_model.specs.Due.{due}
-use Rattle.kn_step.specs.Views.{own_of, state_of, state_with}
+use Rattle.kn_machine.specs.Views.{own_of, state_of, state_with}
 use Rattle.kn_step.specs.Answers.{IsReady}
 
 -- nothing is asked of no input
@@ -23,17 +23,13 @@ nothing_asked conflicts = record { given_words = []; is = refl; meet = (tt, refl
     go [] a b = absurd cc
     go (w ∷ ws) a b = a
 
--- a node that loses no packet, is given none twice and never boots again
-pub opened_ready : (net : Network) (node : ℕ) (c : ConfigView) → IsOpened (plan_of net node) node c → node < length net.nodes → 0 < net.limits.ticks
-    → (plan_of net node).loss ≡ 0 → (plan_of net node).duplicate ≡ 0 → (plan_of net node).reboot ≡ [] → IsReady net 0 c
-opened_ready net node c o inside early loss duplicate reboot = record {
+-- an event may be run from a node at its start
+pub opened_ready : (net : Network) (node : ℕ) (c : ConfigView) → IsOpened (plan_of net node) node c → node < length net.nodes → 0 < net.limits.ticks → IsReady net 0 c
+opened_ready net node c o inside early = record {
   node = subst (λ (n : ℕ). n < length net.nodes) (sym o.of) inside;
   early = early;
   standing = subst (λ (s : Standing). StandsFor net.limits.conflicts (that (own_of c)) s) (sym o.standing) (subst (λ (ls : List Literal). StandsFor net.limits.conflicts (that (own_of (record c { cond = ls }))) (Inputs [])) (sym o.cond) (nothing_asked net.limits.conflicts));
   senders = subst (λ (m : MachineView). AllByRecursion (λ (p : PacketView). p.from < length net.nodes) m.queue) (sym o.machine) tt;
-  losses = ap (λ (m : MachineView). m.losses) o.machine ∙ loss;
-  duplications = ap (λ (m : MachineView). m.duplications) o.machine ∙ duplicate;
-  reboots = ap (λ (m : MachineView). m.reboots) o.machine ∙ reboot;
 }
 
 -- and in a network of one tick its boot is due

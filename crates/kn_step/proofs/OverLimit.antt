@@ -23,8 +23,8 @@ use Rattle.kn_model.proofs.Sending.{is_here}
 use Rattle.kn_model.proofs.Beginning.{Adds, paths_add}
 use Rattle.kn_model.proofs.AlikeGiven.{given_means}
 use Rattle.kn_model.proofs.AlikePrefixes.{live_alike}
-use Rattle.kn_step.specs.Views.{state_of, own_of}
-use Rattle.kn_step.specs.Paths.{PathView, path_seen}
+use Rattle.kn_machine.specs.Views.{state_of, own_of}
+use Rattle.kn_machine.specs.Paths.{PathView, path_seen}
 use Rattle.kn_step.specs.Given.{IsKept, AreKept}
 use Rattle.kn_step.specs.Answers.{paths_from}
 use Rattle.kn_step.specs.Laws.{OverMeans, bits_of}

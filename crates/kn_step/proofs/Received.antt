@@ -26,7 +26,7 @@ use Rattle.kn_model.specs.Nodes.{State}
 use Rattle.kn_model.specs.Alikes.{ConditionAlike, Alike}
 use Rattle.kn_model.proofs.AlikeTerms.{holds_join, joins, condition_self, condition_through, alike_self}
 use Rattle.kn_model.proofs.Coverage.{put_all_map}
-use Rattle.kn_step.specs.Views.{packet_of, state_of, own_of, received}
+use Rattle.kn_machine.specs.Views.{packet_of, state_of, own_of, received}
 use Rattle.kn_step.specs.Sides.{Implies}
 use Rattle.kn_step.specs.Answers.{guards_of, OnReceived, OnLearned}
 use Rattle.kn_step.proofs.OneMore.{implied_alike, one_stands}

@@ -19,9 +19,9 @@ use Rattle.kn_model.specs.Terms.{terms}
 use Rattle.kn_model.specs.Packets.{first_at}
 use Rattle.kn_model.specs.Rows.{sender_of}
 use Rattle.kn_model.specs.Paths.{mail_in}
-use Rattle.kn_step.specs.Views.{packet_of, state_with}
-use Rattle.kn_step.specs.Effects.{mail_of, IsIn}
-use Rattle.kn_step.specs.declared.spot.Spot.{Spot}
+use Rattle.kn_machine.specs.Views.{packet_of, state_with}
+use Rattle.kn_machine.specs.Effects.{mail_of, IsIn}
+use Rattle.kn_machine.specs.declared.spot.Spot.{Spot}
 
 sets_later : (count : ℕ) (i : Instr) → IsInstr count i → SetsLater i
 sets_later count (Timer k d) h = grind (arith, h)

@@ -28,17 +28,17 @@ use Rattle.kn_model.proofs.OneByOne.{pairs-self, pairs-append}
 use Rattle.kn_model.proofs.AlikeTerms.{holds_join, alike_self, condition_self, term_self, send_self}
 use Rattle.kn_model.proofs.AlikeGiven.{IsShut, given_append, shut_ways}
 use Rattle.kn_model.proofs.EachWay.{IsHere}
-use Rattle.kn_step.specs.Ways.{WayView, way_of, known_of, AlikeWay, IsRow, IsStill, AreStamped}
+use Rattle.kn_machine.specs.Ways.{WayView, way_of, known_of, AlikeWay, IsRow, IsStill, AreStamped}
 use Rattle.kn_packet.specs.Packets.{PacketView}
 use Rattle.kn_step.specs.Sides.{IsFurther, Implies}
-use Rattle.kn_step.specs.Effects.{here_of, side_at, IsIn, IsDecision, IsStep, AlikeEffect}
+use Rattle.kn_machine.specs.Effects.{here_of, side_at, IsIn, IsDecision, IsStep, AlikeEffect}
 use Rattle.kn_step.specs.Given.{onward, Leads, AreGivenSoFar}
 use Rattle.kn_step.specs.Turns.{sided, split_paths, turned, IsSound, IsOn, IsTurn, TurnSplits}
-use Rattle.kn_step.specs.declared.rows.Step.{Step}
-use Rattle.kn_step.specs.declared.rows.Step.TheVariants as steps
+use Rattle.kn_machine.specs.declared.rows.Step.{Step}
+use Rattle.kn_machine.specs.declared.rows.Step.TheVariants as steps
 use Rattle.kn_step.specs.declared.run.Turn.{Turn}
 use Rattle.kn_step.specs.declared.run.Turn.TheVariants as turns
-use Rattle.kn_step.specs.declared.spot.Spot.{Spot}
+use Rattle.kn_machine.specs.declared.spot.Spot.{Spot}
 use Rattle.kn_step.proofs.Onward.{opened, past, ended, effect_paths, goes_leads, stops_leads, decides_leads, sides_on, leads_alike, leads_through, onward_alike}
 
 module _ (net : Network) (spot : Spot) where

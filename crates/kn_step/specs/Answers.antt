@@ -1,5 +1,5 @@
 -- What an event's paths and a node's receipt of packets are.
-use Rattle.std.specs.Prelude.{◌≡◌, ⊤, ℕ, ◌+◌, ◌<◌, ◌≤◌, [], List, ◌++◌, length, map, flat_map, Option, Some, None}
+use Rattle.std.specs.Prelude.{◌≡◌, ⊤, ℕ, ◌<◌, ◌≤◌, List, ◌++◌, length, map, flat_map, Option, Some, None}
 use Rattle.std.specs.List.{AllByRecursion}
 use Rattle.kn_term.specs.Terms.{Term}
 use Rattle.kn_cond.specs.Conditions.{Condition, that, IsImpossible, StandsFor}
@@ -13,23 +13,19 @@ use Rattle.kn_model.specs.Nets.{Network}
 use Rattle.kn_model.specs.Due.{due}
 use Rattle.kn_model.specs.Paths.{Path, event_paths}
 use Rattle.kn_model.specs.Alikes.{Alike, AreGiven}
-use Rattle.kn_step.specs.Views.{packet_of, state_of, own_of, received}
-use Rattle.kn_step.specs.Paths.{PathView, path_seen}
+use Rattle.kn_machine.specs.Views.{packet_of, state_of, own_of, received}
+use Rattle.kn_machine.specs.Paths.{PathView, path_seen}
 use Rattle.kn_step.specs.Given.{AreGivenSoFar, AreKept}
 use Rattle.kn_step.specs.declared.path.TooMany.{TooMany}
 use Rattle.kn_step.specs.declared.path.StepStop.{StepStop}
 use Rattle.kn_step.specs.declared.path.StepStop.TheVariants as stops
 
--- a state that an event may be run from: of a node of the network, at a tick of it, with what is known of its own condition;
--- it loses no packet, is given none twice, and never boots again
+-- a state that an event may be run from: of a node of the network, at a tick of it, with what is known of its own condition
 pub record IsReady (net : Network) (tick : ℕ) (c : ConfigView) : Type 0 where
   pub node : c.node < length net.nodes
   pub early : tick < net.limits.ticks
   pub standing : StandsFor net.limits.conflicts (that (own_of c)) c.standing
   pub senders : AllByRecursion (λ (p : PacketView). p.from < length net.nodes) c.machine.queue
-  pub losses : c.machine.losses ≡ 0
-  pub duplications : c.machine.duplications ≡ 0
-  pub reboots : c.machine.reboots ≡ []
 
 -- the paths of an event from a state
 abbrev pub paths_from : Network → (tick : ℕ) → Event → ConfigView → List (Path Term)
@@ -62,19 +58,12 @@ pub record IsReceived (conflicts : ℕ) (c : ConfigView) (inbox : List PacketVie
 abbrev pub IsRefused : ConfigView → List PacketView → Type 0
 IsRefused c inbox = IsImpossible (that (received (map packet_of inbox) (state_of c)).own)
 
--- an event of a node that does not reboot, and a timer is one of eight
-abbrev pub IsPlainEvent : Event → Type 0
-IsPlainEvent events.Boot = ⊤
-IsPlainEvent events.Reboot = ⊥
-IsPlainEvent (events.Packet from seq copy) = ⊤
-IsPlainEvent (events.Timer number) = number < 8
-
--- the number of an event's handler
-abbrev pub handler_of : Event → ℕ
-handler_of events.Boot = 0
-handler_of events.Reboot = 0
-handler_of (events.Packet from seq copy) = 1
-handler_of (events.Timer number) = 2 + number
+-- a timer is one of eight
+abbrev pub IsSmall : Event → Type 0
+IsSmall events.Boot = ⊤
+IsSmall events.Reboot = ⊤
+IsSmall (events.Packet from seq copy) = ⊤
+IsSmall (events.Timer number) = number < 8
 
 -- what holds where an event has too many paths
 abbrev pub OnStop : (TooMany → Type 0) → StepStop → Type 0

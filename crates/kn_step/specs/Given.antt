@@ -7,9 +7,9 @@ use Rattle.kn_model.specs.Terms.{terms}
 use Rattle.kn_model.specs.Rows.{Here, Way}
 use Rattle.kn_model.specs.Paths.{Path, ways, path_of}
 use Rattle.kn_model.specs.Alikes.{AreGiven}
-use Rattle.kn_step.specs.Paths.{PathView}
-use Rattle.kn_step.specs.Ways.{AreStamped}
-use Rattle.kn_step.specs.Views.{own_of}
+use Rattle.kn_machine.specs.Paths.{PathView}
+use Rattle.kn_machine.specs.Ways.{AreStamped}
+use Rattle.kn_machine.specs.Views.{own_of}
 
 -- the paths of a way, with so many instructions left
 abbrev pub onward : Here Term → ℕ → Way Term → List (Path Term)

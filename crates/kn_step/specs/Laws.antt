@@ -8,8 +8,8 @@ use Rattle.kn_model.specs.Nets.{Network}
 use Rattle.kn_model.specs.Paths.{paths}
 use Rattle.kn_model.specs.Limits.{IsPrefix, NoneBegins}
 use Rattle.kn_model.specs.Laws.{IsNet}
-use Rattle.kn_step.specs.Views.{state_of}
-use Rattle.kn_step.specs.Paths.{PathView}
+use Rattle.kn_machine.specs.Views.{state_of}
+use Rattle.kn_machine.specs.Paths.{PathView}
 use Rattle.kn_step.specs.Answers.{AreTooMany}
 
 -- the bits of paths

@@ -11,10 +11,10 @@ use Rattle.kn_model.specs.Terms.{terms}
 use Rattle.kn_model.specs.Nets.{Network, code_of}
 use Rattle.kn_model.specs.Rows.{Here, Way}
 use Rattle.kn_model.specs.Paths.{Path, path_of, decided}
-use Rattle.kn_step.specs.Ways.{WayView, way_of, known_of, AreStamped}
-use Rattle.kn_step.specs.Effects.{here_of, side_at, IsDecision}
+use Rattle.kn_machine.specs.Ways.{WayView, way_of, known_of, AreStamped}
+use Rattle.kn_machine.specs.Effects.{here_of, side_at, IsDecision}
 use Rattle.kn_step.specs.Given.{onward, Leads}
-use Rattle.kn_step.specs.declared.spot.Spot.{Spot}
+use Rattle.kn_machine.specs.declared.spot.Spot.{Spot}
 use Rattle.kn_step.specs.declared.run.Split.{Split}
 use Rattle.kn_step.specs.declared.run.Turn.{Turn}
 use Rattle.kn_step.specs.declared.run.Turn.TheVariants as turns

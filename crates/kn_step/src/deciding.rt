@@ -7,13 +7,13 @@ ghost use Rattle.kn_cond.specs.Meanings.{literal_of};
 ghost use Rattle.kn_model.specs.Terms.{terms};
 ghost use Rattle.kn_cond.specs.Literals.{negated};
 ghost use Rattle.kn_model.specs.Paths.{decided};
-ghost use Rattle.kn_step.specs.Ways.{way_of, known_of};
+ghost use Rattle.kn_machine.specs.Ways.{way_of, known_of};
 ghost use Rattle.kn_cond.specs.Literals.{word_holds};
 ghost use Rattle.kn_step.specs.Sides.{AreSides, IsFurther, Implies};
 ghost use Rattle.kn_step.specs.Turns.{IsSound};
 
-use crate::way::Way;
 use kn_cond::{Cond, Standing};
+use kn_machine::Way;
 use kn_solve::{Judge, ask_more};
 use kn_term::{Literal, Node};
 use std::alloc::AllocError;

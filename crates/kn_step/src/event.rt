@@ -1,6 +1,6 @@
 //! Event runs.
 
-ghost use Rattle.std.specs.Prelude.{◌≡◌, ◌+◌, ◌<◌, None, Some, Bool, List, length, IfOk, IfErr, OnOk};
+ghost use Rattle.std.specs.Prelude.{◌≡◌, ◌+◌, None, Some, Bool, List, filter, length, nat_eq, not, IfOk, IfErr, OnOk};
 ghost use Rattle.std.specs.Arc.{arc_value};
 ghost use Rattle.std.specs.List.{AllByRecursion};
 ghost use Rattle.kn_code.specs.Code.{IsValid};
@@ -10,17 +10,17 @@ ghost use Rattle.kn_model.specs.Terms.{terms};
 ghost use Rattle.kn_model.specs.Laws.{IsNet};
 ghost use Rattle.kn_model.specs.Due.{due};
 ghost use Rattle.kn_model.specs.Paths.{begun, mail_in};
-ghost use Rattle.kn_step.specs.Views.{state_of, state_with};
-ghost use Rattle.kn_step.specs.Effects.{mail_of};
-ghost use Rattle.kn_step.specs.Answers.{IsReady, AreRun, AreTooMany, IsPlainEvent, handler_of, OnStop};
+ghost use Rattle.kn_machine.specs.Views.{state_of, state_with};
+ghost use Rattle.kn_machine.specs.Effects.{mail_of};
+ghost use Rattle.kn_step.specs.Answers.{IsReady, AreRun, AreTooMany, IsSmall, OnStop};
 ghost use Rattle.kn_step.specs.Turns.{OnTooMany};
 
-use crate::path::{Done, Path, StepStop, TooMany};
-use crate::run::{RunStop, give, run};
-use crate::spot::{Spot, links_of, program_of};
+use crate::failures::run_due;
+use crate::path::{Done, StepStop, TooMany};
+use crate::run::RunStop;
 use crate::steps::Steps;
-use crate::way::Way;
 use kn_code::Program;
+use kn_machine::{Path, Spot, Way, links_of};
 use kn_node::{Config, Machine, next_event};
 use kn_packet::{Event, Packet};
 use kn_plan::Net;
@@ -108,7 +108,7 @@ fn run_from<J: Judge>(
     let alloc = *net.links.allocator();
     let links = links_of(alloc, net, c.node)?;
     let mut config = c.copy()?;
-    let mail = begin(event, tick, &mut config.machine);
+    let mail = begin(event, tick, &mut config.machine)?;
     let spot = Spot {
         node: c.node,
         history: c.history,
@@ -116,15 +116,8 @@ fn run_from<J: Judge>(
         links,
         mail,
     };
-    let mut way = Way::new(alloc, config);
-    let handler = handler_of(event);
-    match program_of(net, c.node).handler(handler) {
-        Some(entry) => {
-            way.jump(entry);
-            run(net, &spot, judge, net.limits.fuel, way, out)
-        }
-        None => give(net, &spot, way, out),
-    }
+    let way = Way::new(alloc, config);
+    run_due(net, &spot, judge, event, way, out)
 }
 
 /// That packets and timers of a network come in later ticks, for a caller that needs it in a proof.
@@ -138,37 +131,42 @@ pub fn comes_later(net: &Net)
     }
 }
 
-/// The number of the handler of an event: boot, recv, timer 0 to timer 7.
-fn handler_of(event: Event) -> u8
-    requires { IsPlainEvent event }
-    ensures number { result ≡ handler_of event }
-    ensures low { result < 10 }
-{
-    match event {
-        Event::Boot | Event::Reboot => 0,
-        Event::Packet { .. } => 1,
-        Event::Timer { number } => 2 + number,
-    }
-}
-
-/// What an event does before its handler runs: boot has run, the packet is taken, the timer is unset. The answer is the
-/// event's packet.
-fn begin(event: Event, tick: u32, machine: &mut Machine) -> Option<Packet>
-    requires { IsPlainEvent event }
-    ensures state { (ns : List NodeOf) (trace : List Bool) (own : Condition) → state_with ns machine.new trace own ≡ begun terms tick event (state_with ns machine.old trace own) }
-    ensures mail { (ns : List NodeOf) (trace : List Bool) (own : Condition) → mail_of result ≡ mail_in terms event tick (state_with ns machine.old trace own) }
+/// What an event does before its choices: boot has run, the reboot is decided, the packet is taken, the timer is unset. The
+/// answer is the event's packet. Err is want of memory.
+fn begin(event: Event, tick: u32, machine: &mut Machine) -> Result<Option<Packet>, AllocError>
+    requires { IsSmall event }
+    ensures state { IfOk result (λ o. (ns : List NodeOf) (trace : List Bool) (own : Condition) → state_with ns machine.new trace own ≡ begun terms tick event (state_with ns machine.old trace own)) }
+    ensures mail { IfOk result (λ o. (ns : List NodeOf) (trace : List Bool) (own : Condition) → mail_of o ≡ mail_in terms event tick (state_with ns machine.old trace own)) }
     ensures registers { machine.new.registers ≡ machine.old.registers }
     ensures memory { machine.new.memory ≡ machine.old.memory }
 {
     match event {
-        Event::Boot | Event::Reboot => {
+        Event::Boot => {
             machine.booted = true;
-            None
+            Ok(None)
         }
-        Event::Packet { .. } => machine.queue.take(tick),
+        Event::Reboot => {
+            let left = others(*machine.registers.allocator(), &machine.reboots, tick)?;
+            machine.reboots = left;
+            Ok(None)
+        }
+        Event::Packet { .. } => Ok(machine.queue.take(tick)),
         Event::Timer { number } => {
             machine.timers[number as usize] = None;
-            None
+            Ok(None)
         }
     }
+}
+
+/// The ticks that are not this one. Err is want of memory.
+fn others(alloc: Global, ticks: &[u32], tick: u32) -> Result<Vec<u32>, AllocError>
+    ensures { IfOk result (λ v. v.items ≡ filter (λ x. not (nat_eq x tick)) ticks.now) }
+{
+    let mut left = Vec::new(alloc);
+    for other in ticks {
+        if *other != tick {
+            left.push(*other)?;
+        }
+    }
+    Ok(left)
 }

@@ -5,7 +5,7 @@ ghost use Rattle.kn_built.specs.Built.{Extends};
 ghost use Rattle.kn_cond.specs.Conditions.{Query, that, IsImpossible, StandsFor};
 ghost use Rattle.kn_cond.specs.Meanings.{condition_of, literal_of, StandIn};
 ghost use Rattle.kn_model.specs.Alikes.{ConditionAlike};
-ghost use Rattle.kn_step.specs.Views.{own_of};
+ghost use Rattle.kn_machine.specs.Views.{own_of};
 ghost use Rattle.kn_built.specs.Putting.{put_all};
 ghost use Rattle.kn_packet.specs.Packets.{packet_le};
 ghost use Rattle.kn_solve.specs.Verdicts.{IsJudged};

@@ -4,24 +4,22 @@ ghost use Rattle.std.specs.Prelude.{◌≡◌, ◌<◌, ◌≤◌, ◌++◌, ◌
 ghost use Rattle.kn_term.specs.Terms.{Term};
 ghost use Rattle.kn_cond.specs.Meanings.{literal_of};
 ghost use Rattle.kn_model.specs.Terms.{terms};
-ghost use Rattle.kn_model.specs.Paths.{Path as PathOf, decided, path_of};
+ghost use Rattle.kn_model.specs.Paths.{Path as PathOf, decided, path_of, runs};
 ghost use Rattle.kn_model.specs.Alikes.{AreGiven};
 ghost use Rattle.kn_model.specs.Nets.{Network};
-ghost use Rattle.kn_step.specs.Ways.{way_of, known_of, AreStamped, AlikeWay, IsStill};
-ghost use Rattle.kn_step.specs.Effects.{here_of, side_at, IsIn};
+ghost use Rattle.kn_machine.specs.Ways.{way_of, known_of, AreStamped, AlikeWay, IsStill};
+ghost use Rattle.kn_machine.specs.Effects.{here_of, side_at, IsIn};
 ghost use Rattle.kn_step.specs.Sides.{IsFurther};
-ghost use Rattle.kn_step.specs.Paths.{path_seen};
+ghost use Rattle.kn_machine.specs.Paths.{path_seen};
+ghost use Rattle.kn_step.specs.Choices.{CameBehind, paths_by};
 ghost use Rattle.kn_step.specs.declared.run.RunStop.TheVariants as stops;
 ghost use Rattle.kn_step.specs.Given.{onward, Leads, AreGivenSoFar, AreKept};
 ghost use Rattle.kn_step.specs.Turns.{turned, split_paths, IsSound, IsOn, IsAtDecision, IsTurn, IsStretch, TurnSplits, IsSplit, sided, OnTooMany, UnlessMemory};
 
 use crate::deciding::{Sides, decide, negated, sides_of};
-use crate::path::Path;
-use crate::rows::{Step, execute, fail, take_side};
-use crate::spot::{Spot, program_of};
-use crate::way::Way;
 use kn_code::Instr;
 use kn_cond::Standing;
+use kn_machine::{Path, Spot, Step, Way, execute, fail, program_of, take_side};
 use kn_node::FailKind;
 use kn_plan::Net;
 use kn_solve::Judge;
@@ -196,10 +194,7 @@ fn run_out(spot: &Spot, way: &mut Way)
 pub fn give(net: &Net, spot: &Spot, way: Way, out: &mut Vec<Path>) -> Result<(), RunStop>
     requires sound { IsSound net.now.network.limits.conflicts way }
     requires stamps { AreStamped spot.now.node spot.now.history way.sends }
-    ensures given { (before qs : List (PathOf Term)) → AreGiven (map path_seen out.old.items) before → Leads (path_of terms (way_of way) ∷ []) qs → UnlessMemory result (AreGiven (map path_seen out.new.items) (before ++ qs)) }
-    ensures kept { AreKept net.now.network.limits.conflicts spot.now.node spot.now.history out.old.items → UnlessMemory result (AreKept net.now.network.limits.conflicts spot.now.node spot.now.history out.new.items) }
-    ensures few { OnOk result (length out.new.items ≤ net.now.network.limits.states) }
-    ensures many { OnTooMany result (net.now.network.limits.states < length out.new.items) }
+    ensures { CameBehind net.now.network spot.now out.old.items out.new.items (path_of terms (way_of way) ∷ []) result }
 {
     let path = match way.finish(spot.node, spot.history) {
         Ok(path) => path,
@@ -227,11 +222,7 @@ pub fn run<J: Judge>(
     requires place { IsIn net.now.network spot.now }
     requires sound { IsSound net.now.network.limits.conflicts way }
     requires stamps { AreStamped spot.now.node spot.now.history way.sends }
-    ensures given { (before : List (PathOf Term)) → AreGiven (map path_seen out.old.items) before → OnOk result (AreGiven (map path_seen out.new.items) (before ++ onward (here_of net.now.network spot.now) fuel (way_of way))) }
-    ensures so_far { (before : List (PathOf Term)) → AreGiven (map path_seen out.old.items) before → OnTooMany result (AreGivenSoFar (map path_seen out.new.items) (before ++ onward (here_of net.now.network spot.now) fuel (way_of way))) }
-    ensures kept { AreKept net.now.network.limits.conflicts spot.now.node spot.now.history out.old.items → UnlessMemory result (AreKept net.now.network.limits.conflicts spot.now.node spot.now.history out.new.items) }
-    ensures few { OnOk result (length out.new.items ≤ net.now.network.limits.states) }
-    ensures many { OnTooMany result (net.now.network.limits.states < length out.new.items) }
+    ensures { CameBehind net.now.network spot.now out.old.items out.new.items (onward (here_of net.now.network spot.now) fuel (way_of way)) result }
 {
     let mut way = way;
     match run_stretch(net, spot, judge, fuel, &mut way) {
@@ -244,6 +235,31 @@ pub fn run<J: Judge>(
             Err(error) => Err(RunStop::Memory(error)),
         },
         Err(error) => Err(RunStop::Memory(error)),
+    }
+}
+
+/// The paths of a way through the handler of a number, of boot, recv and timer 0 to timer 7, come behind the others; one that
+/// is absent runs no instruction.
+pub fn run_handler<J: Judge>(
+    net: &Net,
+    spot: &Spot,
+    judge: &mut J,
+    handler: u8,
+    way: Way,
+    out: &mut Vec<Path>,
+) -> Result<(), RunStop>
+    requires place { IsIn net.now.network spot.now }
+    requires sound { IsSound net.now.network.limits.conflicts way }
+    requires stamps { AreStamped spot.now.node spot.now.history way.sends }
+    ensures { CameBehind net.now.network spot.now out.old.items out.new.items (paths_by (runs terms (here_of net.now.network spot.now) handler) (way_of way)) result }
+{
+    match program_of(net, spot.node).handler(handler) {
+        Some(entry) => {
+            let mut way = way;
+            way.jump(entry);
+            run(net, spot, judge, net.limits.fuel, way, out)
+        }
+        None => give(net, spot, way, out),
     }
 }
 

@@ -5,7 +5,7 @@ ghost use Rattle.std.specs.Arc.{arc_value};
 ghost use Rattle.std.specs.List.{AllByRecursion};
 ghost use Rattle.kn_packet.specs.Packets.{PacketView};
 ghost use Rattle.kn_cond.specs.Conditions.{that, StandsFor};
-ghost use Rattle.kn_step.specs.Views.{own_of};
+ghost use Rattle.kn_machine.specs.Views.{own_of};
 ghost use Rattle.kn_step.specs.Answers.{IsReady};
 
 mod rows;
@@ -19,7 +19,9 @@ use kn_plan::{Limits, Link, Name, Net, NodePlan};
 use kn_term::{Literal, Ref, Terms, Valuation};
 use kn_trace::Trace;
 use kn_word::Op;
-use rows::{BOOT, CASES, Case, RECEIPTS, ROWS, Receipt, Row, Start, WAYS, WIDTHS, Width};
+use rows::{
+    BOOT, CASES, Case, FAILURES, Failure, RECEIPTS, ROWS, Receipt, Row, Start, WAYS, WIDTHS, Width,
+};
 use smallvec::SmallVec;
 use std::alloc::{AllocError, Global};
 use std::fmt::Write;
@@ -74,7 +76,7 @@ fn link(to: u32, delay: u32) -> Link
 fn three_nodes(alloc: Global, program: Program, fuel: u32) -> Result<Net, AllocError>
     requires least { 1 ≤ fuel }
     requires most { fuel ≤ 4096 }
-    ensures nodes { IfOk result (λ n. n.network.nodes ≡ record { program = 0; loss = 0; duplicate = 0; reboot = [] } ∷ record { program = 0; loss = 0; duplicate = 0; reboot = [] } ∷ record { program = 0; loss = 0; duplicate = 0; reboot = [] } ∷ []) }
+    ensures nodes { IfOk result (λ n. length n.network.nodes ≡ 3) }
     ensures ticks { IfOk result (λ n. n.network.limits.ticks ≡ 2) }
 {
     Ok(Net {
@@ -93,8 +95,8 @@ fn three_nodes(alloc: Global, program: Program, fuel: u32) -> Result<Net, AllocE
     })
 }
 
-/// A packet of node 2 to node 1, which comes in tick 1, with the words 7 and 9.
-fn mail(alloc: Global) -> Result<Packet, AllocError>
+/// A copy of a packet of node 2 to node 1, which comes in tick 1, with the words 7 and 9.
+fn mail(alloc: Global, copy: u8) -> Result<Packet, AllocError>
     ensures { IfOk result (λ p. p.from ≡ 2) }
 {
     let mut terms = Terms::new(alloc);
@@ -103,7 +105,7 @@ fn mail(alloc: Global) -> Result<Packet, AllocError>
     Ok(Packet {
         from: 2,
         seq: 0,
-        copy: 0,
+        copy,
         to: 1,
         arrival: 1,
         payload: SmallVec::from_slice(alloc, &[seven, nine])?,
@@ -124,11 +126,11 @@ fn stamp(alloc: Global) -> Stamp {
 }
 
 /// The queue with that packet, or without packets.
-fn queue(alloc: Global, mailed: bool) -> Result<Queue, AllocError>
+fn queue(alloc: Global, start: &Start) -> Result<Queue, AllocError>
     ensures { IfOk result (λ q. AllByRecursion (λ (p : PacketView). p.from < 3) q) }
 {
     let mut queue = Queue::new(alloc);
-    if mailed && queue.post(mail(alloc)?).is_err() {
+    if start.mail && queue.post(mail(alloc, start.failing.copy)?).is_err() {
         return Err(AllocError);
     }
     Ok(queue)
@@ -138,19 +140,17 @@ fn queue(alloc: Global, mailed: bool) -> Result<Queue, AllocError>
 fn machine_at(alloc: Global, machine: Machine, start: &Start) -> Result<Machine, AllocError>
     ensures registers { IfOk result (λ m. m.registers ≡ machine.registers) }
     ensures memory { IfOk result (λ m. m.memory ≡ machine.memory) }
-    ensures losses { IfOk result (λ m. m.losses ≡ machine.losses) }
-    ensures duplications { IfOk result (λ m. m.duplications ≡ machine.duplications) }
-    ensures reboots { IfOk result (λ m. m.reboots ≡ machine.reboots) }
     ensures queue { IfOk result (λ m. AllByRecursion (λ (p : PacketView). p.from < 3) m.queue) }
 {
     let Machine {
         registers,
         memory,
-        losses,
-        duplications,
-        reboots,
         ..
     } = machine;
+    let mut reboots = Vec::new(alloc);
+    if start.failing.reboots {
+        reboots.push(1)?;
+    }
     Ok(Machine {
         registers,
         memory,
@@ -158,11 +158,11 @@ fn machine_at(alloc: Global, machine: Machine, start: &Start) -> Result<Machine,
             alloc,
             [None, None, None, start.timer, None, None, None, None],
         )?,
-        queue: queue(alloc, start.mail)?,
+        queue: queue(alloc, start)?,
         inputs: start.made.min(65535),
         sent: start.sent.min(65535),
-        losses,
-        duplications,
+        losses: start.failing.losses,
+        duplications: start.failing.duplications,
         outcome: Outcome::Running,
         booted: start.tick > 0,
         reboots,
@@ -171,7 +171,7 @@ fn machine_at(alloc: Global, machine: Machine, start: &Start) -> Result<Machine,
 
 /// Node 1 of the network as it begins so.
 fn started(alloc: Global, net: &Net, start: &Start) -> Result<Arc<Config, Global>, AllocError>
-    requires nodes { net.now.network.nodes ≡ record { program = 0; loss = 0; duplicate = 0; reboot = [] } ∷ record { program = 0; loss = 0; duplicate = 0; reboot = [] } ∷ record { program = 0; loss = 0; duplicate = 0; reboot = [] } ∷ [] }
+    requires nodes { length net.now.network.nodes ≡ 3 }
     requires ticks { net.now.network.limits.ticks ≡ 2 }
     ensures { (tick : ℕ) → tick < 2 → IfOk result (λ c. IsReady net.now.network tick (arc_value c)) }
 {
@@ -364,6 +364,60 @@ fn each_instruction(rt: HostRuntime) -> Result<(), Fail> {
 fn all_ways(rt: HostRuntime) -> Result<(), Fail> {
     for row in &WAYS {
         let right = is_right(rt.alloc(), row)?;
+        assert!(rt; right, "{}", row.name);
+    }
+    Ok(())
+}
+
+/// A path of a failure row.
+fn add_failing(text: &mut String, path: &Path) -> Result<(), AllocError> {
+    add_path(text, path)?;
+    let machine = &path.config.machine;
+    let losses = machine.losses;
+    let duplications = machine.duplications;
+    let made = machine.inputs;
+    write!(text, " losses {losses} duplications {duplications}")?;
+    write!(text, " inputs {made}")?;
+    if machine.queue.due(1).is_some() {
+        text.push_str(" now")?;
+    }
+    if machine.queue.due(2).is_some() {
+        text.push_str(" next")?;
+    }
+    text.push('|')
+}
+
+/// All paths of a failure row.
+fn said_failing(alloc: Global, paths: &[Path]) -> Result<String, AllocError> {
+    let mut text = String::new(alloc);
+    for path in paths {
+        add_failing(&mut text, path)?;
+    }
+    Ok(text)
+}
+
+/// Whether the paths of a failure row are those that it tells.
+fn is_failing(alloc: Global, row: &Failure) -> Result<bool, AllocError> {
+    let program = program(alloc, 0, &[[0x0f, 0, 0, 0, 0, 0, 0, 0], RET])?;
+    let start = Start {
+        tick: 1,
+        mail: true,
+        timer: row.timer,
+        made: row.made,
+        sent: 0,
+        failing: row.failing,
+    };
+    let Ok(done) = ran::<Brand>(alloc, program, 512, &start, Blank::new(1)) else {
+        return Ok(false);
+    };
+    let text = said_failing(alloc, &done.paths)?;
+    Ok(text.as_str() == row.paths)
+}
+
+#[test]
+fn losses_duplications_and_reboots(rt: HostRuntime) -> Result<(), Fail> {
+    for row in &FAILURES {
+        let right = is_failing(rt.alloc(), row)?;
         assert!(rt; right, "{}", row.name);
     }
     Ok(())

@@ -1,13 +1,33 @@
 //! What programs do, worked out by hand.
 
-/// How node 1 stands when an event comes: in which tick, whether a packet waits for it, what timer 3 is set to, and how
-/// many inputs it made and packets it sent before.
+/// How a node may fail: how many losses and duplications are left, whether it may reboot in tick 1, and which copy of a
+/// packet waits.
+#[derive(Clone, Copy)]
+pub struct Failing {
+    pub losses: u8,
+    pub duplications: u8,
+    pub reboots: bool,
+    pub copy: u8,
+}
+
+/// It does not.
+const NEVER: Failing = Failing {
+    losses: 0,
+    duplications: 0,
+    reboots: false,
+    copy: 0,
+};
+
+/// How node 1 stands when an event comes: in which tick, whether a packet waits for it, what timer 3 is set to, how many
+/// inputs it made and packets it sent before, and how it may fail.
+#[derive(Drop)]
 pub struct Start {
     pub tick: u32,
     pub mail: bool,
     pub timer: Option<u32>,
     pub made: u32,
     pub sent: u32,
+    pub failing: Failing,
 }
 
 /// Before its boot.
@@ -17,6 +37,7 @@ pub const BOOT: Start = Start {
     timer: None,
     made: 0,
     sent: 0,
+    failing: NEVER,
 };
 
 /// A packet waits for it.
@@ -26,6 +47,7 @@ const MAIL: Start = Start {
     timer: None,
     made: 0,
     sent: 0,
+    failing: NEVER,
 };
 
 /// A timer is set to this tick.
@@ -35,6 +57,7 @@ const TIMER: Start = Start {
     timer: Some(1),
     made: 0,
     sent: 0,
+    failing: NEVER,
 };
 
 /// A packet waits for it, and a timer is set to this tick.
@@ -44,6 +67,7 @@ const BOTH: Start = Start {
     timer: Some(1),
     made: 0,
     sent: 0,
+    failing: NEVER,
 };
 
 /// Before its boot, with one input left to make.
@@ -53,6 +77,7 @@ const MADE_ALL_BUT_ONE: Start = Start {
     timer: None,
     made: 65534,
     sent: 0,
+    failing: NEVER,
 };
 
 /// Before its boot, with two packets left to send.
@@ -62,6 +87,7 @@ const SENT_ALL_BUT_TWO: Start = Start {
     timer: None,
     made: 0,
     sent: 65533,
+    failing: NEVER,
 };
 
 /// A row: its instructions as text and as code, how the node stands, how many instructions may run, where handlers begin (0
@@ -992,5 +1018,116 @@ pub const RECEIPTS: [Receipt; 4] = [
         first: false,
         second: true,
         known: "none",
+    },
+];
+
+/// A failure row: its name, how many inputs the node made before, what timer 3 is set to, how it may fail, and what its
+/// paths are, where all handlers read the packet's first word into register 0. Of each path: its bits, its outcome, register
+/// 0, the timers that are set, the losses and duplications that are left, how many inputs were made, and whether a packet
+/// waits for this tick or for the next.
+pub struct Failure {
+    pub name: &'static str,
+    pub made: u32,
+    pub timer: Option<u32>,
+    pub failing: Failing,
+    pub paths: &'static str,
+}
+
+pub const FAILURES: [Failure; 8] = [
+    Failure {
+        name: "a packet may be lost",
+        made: 0,
+        timer: None,
+        failing: Failing {
+            losses: 1,
+            duplications: 0,
+            reboots: false,
+            copy: 0,
+        },
+        paths: "0 running 7; losses 1 duplications 0 inputs 1|1 running 0; losses 0 duplications 0 inputs 1|",
+    },
+    Failure {
+        name: "a packet may be doubled",
+        made: 0,
+        timer: None,
+        failing: Failing {
+            losses: 0,
+            duplications: 1,
+            reboots: false,
+            copy: 0,
+        },
+        paths: "0 running 7; losses 0 duplications 1 inputs 1|1 running 7; losses 0 duplications 0 inputs 1 next|",
+    },
+    Failure {
+        name: "it is first decided whether it is lost",
+        made: 0,
+        timer: None,
+        failing: Failing {
+            losses: 2,
+            duplications: 2,
+            reboots: false,
+            copy: 0,
+        },
+        paths: "00 running 7; losses 2 duplications 2 inputs 2|01 running 7; losses 2 duplications 1 inputs 2 next|1 running 0; losses 1 duplications 2 inputs 1|",
+    },
+    Failure {
+        name: "a copy may be lost, and is not doubled again",
+        made: 0,
+        timer: None,
+        failing: Failing {
+            losses: 1,
+            duplications: 1,
+            reboots: false,
+            copy: 1,
+        },
+        paths: "0 running 7; losses 1 duplications 1 inputs 1|1 running 0; losses 0 duplications 1 inputs 1|",
+    },
+    Failure {
+        name: "nothing fails where 65,535 inputs were made",
+        made: 65535,
+        timer: None,
+        failing: Failing {
+            losses: 1,
+            duplications: 1,
+            reboots: false,
+            copy: 0,
+        },
+        paths: "- running 7; losses 1 duplications 1 inputs 65535|",
+    },
+    Failure {
+        name: "the last input decides whether a packet is lost, and it is not doubled",
+        made: 65534,
+        timer: None,
+        failing: Failing {
+            losses: 1,
+            duplications: 1,
+            reboots: false,
+            copy: 0,
+        },
+        paths: "0 running 7; losses 1 duplications 1 inputs 65535|1 running 0; losses 0 duplications 1 inputs 65535|",
+    },
+    Failure {
+        name: "a reboot before a packet and a timer: the queue stays, the timers go",
+        made: 0,
+        timer: Some(1),
+        failing: Failing {
+            losses: 0,
+            duplications: 0,
+            reboots: true,
+            copy: 0,
+        },
+        paths: "0 running 0 t3@1; losses 0 duplications 0 inputs 1 now|1 running 0; losses 0 duplications 0 inputs 1 now|",
+    },
+    Failure {
+        name: "no reboot where 65,535 inputs were made",
+        made: 65535,
+        timer: Some(1),
+        failing: Failing {
+            losses: 0,
+            duplications: 0,
+            reboots: true,
+            copy: 0,
+        },
+        paths: "- running 0 t3@1; losses 0 duplications 0 inputs 65535 now|",
     },
 ];

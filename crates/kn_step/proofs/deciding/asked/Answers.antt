@@ -4,7 +4,7 @@ use Rattle.std.specs.Prelude.{MatchOption}
 use Rattle.kn_term.specs.declared.node.Literal.{Literal}
 use Rattle.kn_cond.specs.Conditions.{that, IsImpossible, StandsFor}
 use Rattle.kn_cond.specs.Meanings.{literal_of}
-use Rattle.kn_step.specs.Ways.{WayView, known_of}
+use Rattle.kn_machine.specs.Ways.{WayView, known_of}
 use Rattle.kn_step.proofs.OneMore.{judged_one}
 use Rattle.kn_step.proofs.deciding.asked.Goals as goal
 

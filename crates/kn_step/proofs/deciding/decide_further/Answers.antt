@@ -1,7 +1,7 @@
 -- One literal more, which says more.
 use Rattle.std.proofs.Common.{◌<◌, length, subst, sym, ap, ◌∙◌, List, [], ◌∷◌, ◌++◌}
 use Rattle.kn_term.specs.declared.node.Literal.{Literal}
-use Rattle.kn_step.specs.Ways.{WayView}
+use Rattle.kn_machine.specs.Ways.{WayView}
 use Rattle.kn_step.proofs.OneMore.{further_way}
 use Rattle.kn_step.proofs.deciding.decide_further.Goals as goal
 

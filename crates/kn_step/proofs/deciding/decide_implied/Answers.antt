@@ -1,7 +1,7 @@
 -- One literal more, which is implied.
 use Rattle.std.proofs.Common.{◌<◌, length, subst, sym}
 use Rattle.kn_cond.specs.Meanings.{literal_of}
-use Rattle.kn_step.specs.Ways.{WayView, known_of}
+use Rattle.kn_machine.specs.Ways.{WayView, known_of}
 use Rattle.kn_step.specs.Sides.{Implies}
 use Rattle.kn_step.proofs.OneMore.{implied_way}
 use Rattle.kn_step.proofs.deciding.decide_implied.Goals as goal

@@ -5,7 +5,7 @@ use Rattle.kn_term.specs.declared.node.Literal.{Literal as Listed}
 use Rattle.kn_term.specs.Terms.{Term}
 use Rattle.kn_cond.specs.Literals.{Literal, negated}
 use Rattle.kn_cond.specs.Meanings.{literal_of, condition_of}
-use Rattle.kn_step.specs.Ways.{WayView, known_of}
+use Rattle.kn_machine.specs.Ways.{WayView, known_of}
 use Rattle.kn_step.specs.Sides.{Implies}
 use Rattle.kn_step.proofs.OneMore.{among_implies}
 use Rattle.kn_step.proofs.deciding.known_side.Goals as goal

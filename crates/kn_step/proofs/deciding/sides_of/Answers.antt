@@ -1,6 +1,6 @@
 -- One side of a decision is asked for, and then the other.
 use Rattle.kn_cond.specs.Meanings.{literal_of}
-use Rattle.kn_step.specs.Ways.{known_of}
+use Rattle.kn_machine.specs.Ways.{known_of}
 use Rattle.kn_step.proofs.OneMore.{none_first, none_second}
 use Rattle.kn_step.proofs.deciding.sides_of.Goals as goal
 

@@ -2,7 +2,7 @@
 use Rattle.std.proofs.Common.{sym, ap, ◌∙◌}
 use Rattle.kn_node.specs.Views.{ConfigView}
 use Rattle.kn_model.specs.Due as model
-use Rattle.kn_step.specs.Views.{state_of, own_of}
+use Rattle.kn_machine.specs.Views.{state_of, own_of}
 use Rattle.kn_step.proofs.DueEvents.{same_due}
 use Rattle.kn_step.proofs.event.run_event_by.Goals as goal
 

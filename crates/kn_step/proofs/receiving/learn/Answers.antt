@@ -6,7 +6,7 @@ use Rattle.kn_cond.specs.Meanings.{condition_of, StandIn}
 use Rattle.kn_cond.specs.declared.standing.Standing.{Standing}
 use Rattle.kn_cond.proofs.Kept.{StandIn-append}
 use Rattle.kn_node.specs.Views.{ConfigView}
-use Rattle.kn_step.specs.Views.{own_of}
+use Rattle.kn_machine.specs.Views.{own_of}
 use Rattle.kn_step.proofs.Received.{learned_none, learned_more}
 use Rattle.kn_step.proofs.receiving.learn.Goals as goal
 

@@ -4,7 +4,7 @@ use Rattle.std.specs.Prelude.{IfOk}
 use Rattle.kn_cond.specs.Conditions.{that, StandsFor}
 use Rattle.kn_node.specs.Views.{ConfigView}
 use Rattle.kn_plan.specs.Files.{File}
-use Rattle.kn_step.specs.Views.{own_of}
+use Rattle.kn_machine.specs.Views.{own_of}
 use Rattle.kn_step.specs.Answers.{OnReceived}
 use Rattle.kn_step.proofs.receiving.receive_by.Goals as goal
 

@@ -3,8 +3,8 @@ use Rattle.std.proofs.Common.{subst, sym}
 use Rattle.std.specs.Prelude.{List}
 use Rattle.kn_cond.specs.Meanings.{literal_of}
 use Rattle.kn_packet.specs.Packets.{PacketView}
-use Rattle.kn_step.specs.Ways.{known_of, AreStamped}
-use Rattle.kn_step.specs.Effects.{here_of}
+use Rattle.kn_machine.specs.Ways.{known_of, AreStamped}
+use Rattle.kn_machine.specs.Effects.{here_of}
 use Rattle.kn_step.proofs.Turning.{go_way, go_side, go_implied, sound_still}
 use Rattle.kn_step.proofs.run.go.Goals as goal
 

@@ -1,7 +1,7 @@
 -- A way up to its end, or to a decision.
 use Rattle.std.proofs.Common.{arith}
-use Rattle.kn_step.specs.Ways.{way_of}
-use Rattle.kn_step.specs.Effects.{here_of}
+use Rattle.kn_machine.specs.Ways.{way_of}
+use Rattle.kn_machine.specs.Effects.{here_of}
 use Rattle.kn_step.specs.Given.{onward}
 use Rattle.kn_step.specs.Turns.{turned}
 use Rattle.kn_step.specs.declared.run.Turn.TheVariants as turns

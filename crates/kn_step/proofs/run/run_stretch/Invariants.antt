@@ -1,6 +1,6 @@
 use Rattle.std.proofs.Common.{◌-◌}
-use Rattle.kn_step.specs.Ways.{way_of}
-use Rattle.kn_step.specs.Effects.{here_of}
+use Rattle.kn_machine.specs.Ways.{way_of}
+use Rattle.kn_machine.specs.Effects.{here_of}
 use Rattle.kn_step.specs.Given.{onward, Leads}
 use Rattle.kn_step.specs.Turns.{IsOn}
 use Rattle.kn_step.proofs.run.run_stretch.Given as goal

@@ -2,7 +2,7 @@
 use Rattle.std.proofs.Common.{ap}
 use Rattle.kn_model.specs.Nodes.{is_running}
 use Rattle.kn_model.specs.Nets.{code_of}
-use Rattle.kn_step.specs.Ways.{WayView, way_of}
+use Rattle.kn_machine.specs.Ways.{WayView, way_of}
 use Rattle.kn_step.proofs.Turning.{runs_on, at_instr, step_goes, step_stops, step_decides}
 use Rattle.kn_step.proofs.run.take_turn.Goals as goal
 

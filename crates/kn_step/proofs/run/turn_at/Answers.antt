@@ -6,8 +6,8 @@ use Rattle.kn_cond.specs.Meanings.{literal_of}
 use Rattle.kn_model.specs.Terms.{terms}
 use Rattle.kn_model.specs.Paths.{decided}
 use Rattle.kn_model.specs.Alikes.{ConditionAlike}
-use Rattle.kn_step.specs.Ways.{WayView, way_of, known_of, AlikeWay}
-use Rattle.kn_step.specs.Effects.{here_of, side_at}
+use Rattle.kn_machine.specs.Ways.{WayView, way_of, known_of, AlikeWay}
+use Rattle.kn_machine.specs.Effects.{here_of, side_at}
 use Rattle.kn_step.proofs.OneMore.{implied_shuts, implied_other, is_first, is_second}
 use Rattle.kn_step.proofs.Turning.{first_shut, second_shut, here_good}
 use Rattle.kn_step.proofs.run.turn_at.Goals as goal

@@ -13,12 +13,9 @@ use Rattle.kn_packet.specs.Packets.{PacketView}
 use Rattle.kn_plan.specs.Nets.{Network, Plan, plan_of, no_plan}
 use Rattle.kn_node.specs.Views.{MachineView, ConfigView}
 use Rattle.kn_node.specs.Opening.{IsOpened, at_start}
-use Rattle.kn_step.specs.Views.{own_of}
+use Rattle.kn_machine.specs.Views.{own_of}
 use Rattle.kn_step.specs.Answers.{IsReady}
 use Rattle.kn_step.proofs.tests.started.Goals as goal
-
-abbrev bare : Plan
-bare = record { program = 0; loss = 0; duplicate = 0; reboot = [] }
 
 nothing_asked : (conflicts : ℕ) → StandsFor conflicts (that []) (Inputs [])
 nothing_asked conflicts = record { given_words = []; is = refl; meet = (tt, refl); least = λ ws m b. go ws m.0 b }
@@ -32,20 +29,13 @@ opened_stands plan n conflicts c o =
     subst (λ (ls : List Literal). StandsFor conflicts (that (condition_of c.terms ls)) c.standing) (sym o.cond)
     (subst (λ (s : Standing). StandsFor conflicts (that []) s) (sym o.standing) (nothing_asked conflicts))
 
--- another machine that loses, doubles and reboots as the opened one, with packets of nodes of the network
-abbrev IsLike : MachineView → MachineView → Type 0
-IsLike m old = (m.losses ≡ old.losses) × (m.duplications ≡ old.duplications) × (m.reboots ≡ old.reboots) × AllByRecursion (λ (p : PacketView). p.from < 3) m.queue
-
-ready_with : (net : Network) (tick : ℕ) (c : ConfigView) (m : MachineView) → net.nodes ≡ bare ∷ bare ∷ bare ∷ [] → net.limits.ticks ≡ 2 → tick < 2
-    → IsOpened (plan_of net 1) 1 c → IsLike m c.machine → IsReady net tick (record c { machine = m })
-ready_with net tick c m nodes ticks early o like = record {
-  node = subst (λ (k : ℕ). k < length net.nodes) (sym o.of) (subst (λ (ps : List Plan). 1 < length ps) (sym nodes) (omega arith));
+-- another machine, with packets of nodes of the network
+ready_with : (net : Network) (tick : ℕ) (c : ConfigView) (m : MachineView) → length net.nodes ≡ 3 → net.limits.ticks ≡ 2 → tick < 2 → IsOpened (plan_of net 1) 1 c → AllByRecursion (λ (p : PacketView). p.from < 3) m.queue → IsReady net tick (record c { machine = m })
+ready_with net tick c m nodes ticks early o from = record {
+  node = omega (arith, o.of, nodes);
   early = subst (λ (k : ℕ). tick < k) (sym ticks) early;
   standing = opened_stands (plan_of net 1) 1 net.limits.conflicts c o;
-  senders = subst (λ (ps : List Plan). AllByRecursion (λ (p : PacketView). p.from < length ps) m.queue) (sym nodes) like.3;
-  losses = like.0 ∙ (ap (λ (x : MachineView). x.losses) o.machine ∙ ap (λ (ps : List Plan). (slice_index_or ps 1 no_plan).loss) nodes);
-  duplications = like.1 ∙ (ap (λ (x : MachineView). x.duplications) o.machine ∙ ap (λ (ps : List Plan). (slice_index_or ps 1 no_plan).duplicate) nodes);
-  reboots = like.2 ∙ (ap (λ (x : MachineView). x.reboots) o.machine ∙ ap (λ (ps : List Plan). (slice_index_or ps 1 no_plan).reboot) nodes);
+  senders = subst (λ (k : ℕ). AllByRecursion (λ (p : PacketView). p.from < k) m.queue) (sym nodes) from;
 }
 
 pub invariant_of-config : goal.invariant_of-config
@@ -66,4 +56,4 @@ returns c tick early =
     let v : ConfigView = record { node = i.node; machine = i.machine; terms = i.terms; cond = i.cond; trace = i.trace; history = i.history; standing = i.standing } in
     let opened : IsOpened (plan_of net 1) 1 v = subst (IsOpened (plan_of net 1) 1) (sym c.node.view_is) c.in_ok-node.ensures in
     subst (IsReady net tick) (sym c.in_ok-shared.ensures.ok)
-    (ready_with net tick v c.in_ok-machine.machine c.requires.nodes c.requires.ticks early opened (made.losses, made.duplications, made.reboots, made.queue))
+    (ready_with net tick v c.in_ok-machine.machine c.requires.nodes c.requires.ticks early opened made.queue)

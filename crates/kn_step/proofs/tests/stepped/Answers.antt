@@ -4,7 +4,7 @@ use Rattle.std.specs.Option.{is_some}
 use Rattle.kn_packet.specs.declared.packet.Event.{Event}
 use Rattle.kn_node.specs.Views.{ConfigView}
 use Rattle.kn_model.specs.Due as model
-use Rattle.kn_step.specs.Views.{state_of, own_of}
+use Rattle.kn_machine.specs.Views.{state_of, own_of}
 use Rattle.kn_step.proofs.DueEvents.{same_due}
 use Rattle.kn_step.proofs.tests.stepped.Goals as goal
 

@@ -1,6 +1,0 @@
--- The copies so far.
-use Rattle.std.proofs.Common.{◌≡◌, take}
-use Rattle.kn_step.proofs.way.copy_packets.Given as goal
-
-abbrev pub invariant-loop-packet : goal.invariant-loop-packet
-invariant-loop-packet l = l.copies.items ≡ take l.packet-index l.packets
