@@ -1,6 +1,6 @@
 -- Where an event runs is in range, and what its run gives of the event.
-use Rattle.std.proofs.Common.{◌≡◌, ◌≤◌, ◌<◌, ℕ, Bool, true, false, cond, List, [], ◌∷◌, ◌++◌, length, map, Option, Some, Ok, Err, refl, sym, ap, subst, ◌∙◌, arith}
-use Rattle.std.specs.Prelude.{nat_eq, filter, Result, IfOk}
+use Rattle.std.proofs.Common.{◌≡◌, ◌≤◌, ◌<◌, ℕ, Bool, true, false, cond, List, [], ◌∷◌, ◌++◌, length, map, Option, Some, refl, sym, ap, subst, ◌∙◌, arith}
+use Rattle.std.specs.Prelude.{nat_eq, filter}
 use Rattle.std.specs.List.{AllByRecursion}
 use Rattle.kn_packet.specs.declared.packet.Event.{Event}
 use Rattle.kn_packet.specs.declared.packet.Event.TheVariants.{Boot, Reboot, Packet as Mail, Timer}
@@ -42,11 +42,6 @@ begun_trace tick Boot s = refl
 begun_trace tick Reboot s = refl
 begun_trace tick (Mail from seq copy) s = refl
 begun_trace tick (Timer number) s = refl
-
--- what three clauses give
-pub three_ok : {T E : Type 0} (P Q S U : T → Type 0) (r : Result T E) → ((x : T) → P x → Q x → S x → U x) → IfOk r P → IfOk r Q → IfOk r S → IfOk r U
-three_ok P Q S U (Ok x) f p q s = f x p q s
-three_ok P Q S U (Err e) f p q s = tt
 
 -- the run of a due event
 pub run_is : (net : Network) (a : Valuation) (spot : Spot) (v : NodeView) (e : Event) (first last : Way ℕ) (next : NodeView) (sends : List (Packet ℕ)) → due net.limits.ticks spot.tick v.state ≡ Some e

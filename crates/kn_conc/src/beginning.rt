@@ -19,6 +19,7 @@ pub fn begin(event: Event, tick: u32, node: &mut ConcNode) -> Result<Option<Conc
     ensures state { IfOk result (λ o. node.new.state ≡ begun (words []) tick event node.old.state) }
     ensures mail { IfOk result (λ o. o ≡ mail_in (words []) event tick node.old.state) }
     ensures node { node.new.node ≡ node.old.node }
+    ensures trace { node.new.state.trace ≡ node.old.state.trace }
 {
     match event {
         Event::Boot => {
@@ -41,6 +42,7 @@ pub fn begin(event: Event, tick: u32, node: &mut ConcNode) -> Result<Option<Conc
 fn take_reboot(tick: u32, node: &mut ConcNode) -> Result<(), AllocError>
     ensures state { OnOk result (node.new.state ≡ record node.old.state { reboots = filter (λ x. not (nat_eq x tick)) node.old.state.reboots }) }
     ensures node { node.new.node ≡ node.old.node }
+    ensures trace { node.new.state.trace ≡ node.old.state.trace }
 {
     let left = others(*node.registers.allocator(), &node.reboots, tick)?;
     node.reboots = left;

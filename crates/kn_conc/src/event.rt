@@ -1,10 +1,10 @@
 //! Events.
 
-ghost use Rattle.std.specs.Prelude.{◌≡◌, ◌<◌, length, None, Some, IfOk, IfErr, OnOk};
+ghost use Rattle.std.specs.Prelude.{◌≡◌, ◌<◌, [], length, None, IfOk, IfErr, OnOk, OnErr};
 ghost use Rattle.kn_model.specs.Due.{due};
 ghost use Rattle.kn_model.specs.Terms.{words};
 ghost use Rattle.kn_model.specs.Packets.{Packet as PacketOf};
-ghost use Rattle.kn_model.specs.Paths.{arrives, comes, event_ways};
+ghost use Rattle.kn_model.specs.Paths.{arrives, comes, event_ways, first_way};
 ghost use Rattle.kn_model.specs.Rows.{Here};
 ghost use Rattle.kn_packet.specs.declared.packet.Event.TheVariants as events;
 ghost use Rattle.kn_conc.specs.Ways.{IsPlace, here_of, way_of};
@@ -22,6 +22,7 @@ use kn_packet::Event;
 use kn_plan::Net;
 use kn_term::Valuation;
 use std::alloc::AllocError;
+use std::mem;
 
 /// Runs the first due event of a node in a tick, on these inputs. The answer is what it sent. The node and the packets are
 /// those of the event's one path over words. Err is want of memory, and leaves the node as it was.
@@ -36,40 +37,41 @@ pub fn run_event_at(
     ensures run { IfOk result (λ ps. IsRun net.now.network inputs.now tick node.old node.new ps.items) }
     ensures err { IfErr result (λ e. node.new ≡ node.old) }
 {
-    let (next, sends) = run_copy(net, node, tick, inputs)?;
-    *node = next;
-    Ok(sends)
+    // The trace grows with every event, so it is not copied: it goes with the way that runs.
+    let alloc = *net.links.allocator();
+    let spare = node.without_trace()?;
+    let mut way = Way::new(alloc, mem::replace(node, spare));
+    if let Err(error) = run_first(net, tick, inputs, &mut way) {
+        mem::swap(&mut node.trace, &mut way.node.trace);
+        return Err(error);
+    }
+    *node = way.node;
+    Ok(way.sends)
 }
 
-/// The node after the first due event of a tick, and what it sent. Err is want of memory.
-fn run_copy(
-    net: &Net,
-    node: &ConcNode,
-    tick: u32,
-    inputs: &Valuation,
-) -> Result<(ConcNode, Vec<ConcPacket>), AllocError>
-    requires node { node.now.node < length net.now.network.nodes }
-    requires due { due net.now.network.limits.ticks tick node.now.state ≡ None → ⊥ }
-    ensures { IfOk result (λ r. IsRun net.now.network inputs.now tick node.now r.0 r.1.items) }
+/// The first due event of a tick runs on a way that begins. Err is want of memory, and leaves the trace of before.
+fn run_first(net: &Net, tick: u32, inputs: &Valuation, way: &mut Way) -> Result<(), AllocError>
+    requires node { way.old.node.node < length net.now.network.nodes }
+    requires due { due net.now.network.limits.ticks tick way.old.node.state ≡ None → ⊥ }
+    requires begins { way_of way.old ≡ first_way (words []) way.old.node.state }
+    ensures run { OnOk result (IsRun net.now.network inputs.now tick way.old.node way.new.node way.new.sends.items) }
+    ensures err { OnErr result (way.new.node.state.trace ≡ way.old.node.state.trace) }
 {
     // This is called for its clause, which the proof cites.
     net.bounds();
-    let alloc = *net.links.allocator();
-    let Some(event) = due_at(net, node, tick) else {
+    let Some(event) = due_at(net, &way.node, tick) else {
         unreachable!();
     };
-    let links = links_of(alloc, net, node.node)?;
-    let mut copy = node.copy()?;
-    let mail = begin(event, tick, &mut copy)?;
+    let links = links_of(*net.links.allocator(), net, way.node.node)?;
+    let mail = begin(event, tick, &mut way.node)?;
     let spot = Spot {
-        node: node.node,
+        node: way.node.node,
         tick,
         links,
         mail,
     };
-    let mut way = Way::new(alloc, copy);
-    run_due(net, &spot, inputs, event, &mut way)?;
-    way.finish()
+    run_due(net, &spot, inputs, event, way)?;
+    way.close()
 }
 
 /// What an event does to a way, on these inputs. Err is want of memory.

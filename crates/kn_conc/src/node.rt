@@ -1,6 +1,6 @@
 //! Nodes over words.
 
-ghost use Rattle.std.specs.Prelude.{◌≡◌, ◌-◌, ◌≤◌, IfOk, OnOk, None, replicate};
+ghost use Rattle.std.specs.Prelude.{◌≡◌, ◌-◌, ◌≤◌, [], IfOk, OnOk, None, replicate};
 ghost use Rattle.kn_model.specs.Packets.{packet_le, put_in};
 ghost use Rattle.kn_model.specs.Nodes.{State, is_running};
 ghost use Rattle.kn_conc.specs.Views.{IsNodeState};
@@ -45,9 +45,9 @@ impl Model for ConcNode {
 }
 
 impl ConcNode {
-    /// An equal node. Err is want of memory.
-    pub fn copy(&self) -> Result<ConcNode, AllocError>
-        ensures { IfOk result (λ n. n ≡ self.now) }
+    /// A node that is equal but for its trace, which is empty. Err is want of memory.
+    pub fn without_trace(&self) -> Result<ConcNode, AllocError>
+        ensures { IfOk result (λ n. n ≡ record self.now { state = record self.now.state { trace = [] } }) }
     {
         let alloc = *self.registers.allocator();
         Ok(ConcNode {
@@ -62,7 +62,7 @@ impl ConcNode {
             memory: Vec::from_slice(alloc, self.memory.as_slice())?,
             timers: Vec::from_slice(alloc, self.timers.as_slice())?,
             reboots: Vec::from_slice(alloc, self.reboots.as_slice())?,
-            trace: self.trace.copy()?,
+            trace: Trace::new(alloc),
             queue: copy_packets(alloc, &self.queue)?,
         })
     }

@@ -1,6 +1,6 @@
 //! A way through an event.
 
-ghost use Rattle.std.specs.Prelude.{◌≡◌, ◌<◌, ◌≤◌, ◌%◌, ◌^◌, ◌++◌, ◌∷◌, [], IfOk, OnOk, slice_index_or, slice_set};
+ghost use Rattle.std.specs.Prelude.{◌≡◌, ◌<◌, ◌≤◌, ◌%◌, ◌^◌, ◌++◌, ◌∷◌, [], IfOk, OnOk, OnErr, slice_index_or, slice_set};
 ghost use Rattle.kn_model.specs.Terms.{words, input_word};
 ghost use Rattle.kn_model.specs.Nodes.{Failed};
 ghost use Rattle.kn_model.specs.Rows.{counted, next, jump, register, with_register, with_memory, with_timer, with_outcome};
@@ -38,15 +38,14 @@ impl Way {
         }
     }
 
-    /// The node after a way that has ended, and what the way sent. Err is want of memory.
-    pub fn finish(self) -> Result<(ConcNode, Vec<ConcPacket>), AllocError>
-        ensures state { IfOk result (λ r. r.0.state ≡ record (way_of self).state { trace = (way_of self).state.trace ++ (way_of self).bits }) }
-        ensures node { IfOk result (λ r. r.0.node ≡ self.node.node) }
-        ensures sends { IfOk result (λ r. r.1 ≡ self.sends) }
+    /// The bits of the event follow those of before in the node's trace. Err is want of memory, and leaves the trace.
+    pub fn close(&mut self) -> Result<(), AllocError>
+        ensures state { OnOk result (self.new.node.state ≡ record self.old.node.state { trace = self.old.node.state.trace ++ self.old.bits }) }
+        ensures node { self.new.node.node ≡ self.old.node.node }
+        ensures sends { self.new.sends ≡ self.old.sends }
+        ensures err { OnErr result (self.new.node.state.trace ≡ self.old.node.state.trace) }
     {
-        let mut node = self.node;
-        node.trace.extend(&self.bits)?;
-        Ok((node, self.sends))
+        self.node.trace.extend(&self.bits)
     }
 
     /// The word of a register, by its number below 16.
