@@ -23,9 +23,9 @@ use Rattle.kn_model.proofs.Lists.{all-weaker}
 use Rattle.kn_model.proofs.OneByOne.{pairs-append}
 use Rattle.kn_model.proofs.AlikeTerms.{joins, condition_self, alike_through}
 use Rattle.kn_model.proofs.AlikeStandings.{alike_standings}
-use Rattle.kn_step.specs.Views.{packet_of, own_of, state_of, received}
+use Rattle.kn_machine.specs.Views.{packet_of, own_of, state_of, received}
 use Rattle.kn_step.specs.Answers.{IsReceived, IsRefused, guards_of}
-use Rattle.kn_cob.specs.Nodes.{NodeView, waiting, guards_in, IsBareState, IsNode}
+use Rattle.kn_cob.specs.Nodes.{NodeView, waiting, guards_in, AreFrom, IsNode}
 use Rattle.kn_cob.specs.Copies.{AreNodes, IsCopy, node_in}
 use Rattle.kn_cob.specs.Runs.{AreEnds}
 use Rattle.kn_cob.specs.Closing.{IsClosed}
@@ -64,9 +64,6 @@ guards_seen : (ps : List PacketView) → flat_map (λ (p : Packet Term). p.guard
 guards_seen [] = refl
 guards_seen (p ∷ ps) = ap (λ (c : Condition). condition_of p.terms p.guard ++ c) (guards_seen ps)
 
-closed_bare : (net : Network) (y : Node Term) → IsBareState net y.state → IsBareState net (closed_state y)
-closed_bare net y h = record { losses = h.losses; duplications = h.duplications; reboots = h.reboots; senders = h.senders }
-
 module _ (net : Network) (t n : ℕ) (x : NodeView) (y : Node Term) (h : IsNode net t n x y) where
   -- it got what it was sent
   abbrev got_waiting : State Term
@@ -78,8 +75,8 @@ module _ (net : Network) (t n : ℕ) (x : NodeView) (y : Node Term) (h : IsNode 
   got_is : received (map packet_of x.inbox) (state_of x.config) ≡ got_waiting
   got_is = ap (λ (c : Condition). record (waiting x) { own = own_of x.config ++ c }) (guards_seen x.inbox)
 
-  bare_after : IsBareState net (close_node y).state
-  bare_after = subst (IsBareState net) (closed_is y) (closed_bare net y h.bare)
+  senders_after : AreFrom net (close_node y).state.queue
+  senders_after = subst (λ (s : State Term). AreFrom net s.queue) (closed_is y) h.senders
 
   pub got_node : (d : ConfigView) → IsReceived net.limits.conflicts x.config x.inbox d → IsNode net (t + 1) n (record { config = d; inbox = [] }) (close_node y)
   got_node d r = record {
@@ -89,7 +86,7 @@ module _ (net : Network) (t n : ℕ) (x : NodeView) (y : Node Term) (h : IsNode 
     guards = condition_self [];
     later = tt;
     standing = r.standing;
-    bare = bare_after;
+    senders = senders_after;
   }
 
   -- what was sent nothing stays
@@ -101,7 +98,7 @@ module _ (net : Network) (t n : ℕ) (x : NodeView) (y : Node Term) (h : IsNode 
     guards = subst (λ (b : List PacketView). ConditionAlike (guards_of b) []) (sym none) (condition_self []);
     later = subst (λ (b : List PacketView). AllByRecursion (λ (p : PacketView). (t + 1 < p.arrival) × (p.copy ≡ 0)) b) (sym none) tt;
     standing = h.standing;
-    bare = bare_after;
+    senders = senders_after;
   }
     where
       nothing : got_waiting ≡ waiting x

@@ -26,7 +26,7 @@ use Rattle.kn_model.proofs.AlikeStandings.{alike_standings}
 use Rattle.kn_model.proofs.FirstInputs.{least_is_first}
 use Rattle.kn_model.proofs.Implied.{run_ends_as_member, run_shows}
 use Rattle.kn_model.proofs.Lists.{all-weaker}
-use Rattle.kn_step.specs.Views.{own_of}
+use Rattle.kn_machine.specs.Views.{own_of}
 use Rattle.kn_cob.specs.Runs.{AreScenarios, name_in}
 use Rattle.kn_cob.specs.Reports.{numbers, dstates_from, is_failed, failed_from, joint_of, IsJoint, IsOfScenario, IsReportOf}
 use Rattle.kn_cob.proofs.Numbered.{some_one, none_some, get_some, contained_at, contains_at, all_contained, first_of, first_is, numbers_at, singles_at, at_numbers, at_singles, one_of, only}

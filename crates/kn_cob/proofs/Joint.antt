@@ -16,7 +16,7 @@ use Rattle.kn_model.proofs.JoinedQuery.{reads_append}
 use Rattle.kn_model.proofs.OneByOne.{pairs-append}
 use Rattle.kn_model.proofs.AlikeStandings.{alike_standings}
 use Rattle.kn_model.proofs.Swapping.{one_and_others}
-use Rattle.kn_step.specs.Views.{own_of}
+use Rattle.kn_machine.specs.Views.{own_of}
 use Rattle.kn_cob.specs.Runs.{AreEnds, AreScenarios}
 use Rattle.kn_cob.specs.Reports.{line_of, numbers, joint_of, IsReportOf}
 use Rattle.kn_cob.proofs.Numbered.{some_one, none_some, get_less, first_of, at_singles, only}

@@ -11,7 +11,7 @@ pub mod Reaching
 pub mod Sorting
 pub mod Ordered
 pub mod EachNode
-pub mod Bare
+pub mod Senders
 pub mod Sending
 pub mod Paths
 pub mod Closing

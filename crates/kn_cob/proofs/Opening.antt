@@ -21,14 +21,12 @@ use Rattle.kn_model.specs.Nets.{Network, no_plan, plan_of, opening_node}
 use Rattle.kn_model.specs.Scenarios.{opening}
 use Rattle.kn_model.specs.Alikes.{OneByOne, TermAlike, ConditionAlike, Alike}
 use Rattle.kn_model.specs.Laws.{queued_all}
-use Rattle.kn_model.proofs.Lists.{all-get_or}
 use Rattle.kn_model.proofs.AlikeTerms.{term_self, condition_self}
-use Rattle.kn_step.specs.Views.{packet_of, own_of, state_with}
-use Rattle.kn_step.specs.Views as kept
+use Rattle.kn_machine.specs.Views.{packet_of, own_of, state_with}
+use Rattle.kn_machine.specs.Views as kept
 use Rattle.kn_step.specs.Answers.{guards_of}
 use Rattle.kn_cob.specs.Nodes.{NodeView, IsNode}
 use Rattle.kn_cob.specs.Copies.{IsCopy, no_node}
-use Rattle.kn_cob.specs.Runs.{IsBarePlan, IsBare}
 use Rattle.kn_cob.specs.Closing.{IsStart, AreStarts}
 use Rattle.kn_cob.proofs.EachNode.{nodes_from}
 
@@ -80,8 +78,8 @@ opened_alike plan n c o =
     (subst (λ (ls : List Literal). Alike (state_with c.terms (at_start plan o.zero) [] (condition_of c.terms ls)) start) (sym o.cond)
     (start_alike plan c.terms o.zero o.is_zero)))
 
-start_node : (net : Network) (n : ℕ) (x : NodeView) → IsBarePlan (plan_of net n) → IsStart net n x → IsNode net 0 n x (opening_node terms (plan_of net n))
-start_node net n x bare s =
+start_node : (net : Network) (n : ℕ) (x : NodeView) → IsStart net n x → IsNode net 0 n x (opening_node terms (plan_of net n))
+start_node net n x s =
     let plan = plan_of net n in
     let o = s.opened in
     let c = x.config in
@@ -93,7 +91,7 @@ start_node net n x bare s =
       later = subst (λ (b : List PacketView). AllByRecursion (λ (p : PacketView). (0 < p.arrival) × (p.copy ≡ 0)) b) (sym s.nothing) tt;
       standing = subst (λ (known : Standing). StandsFor net.limits.conflicts (that (own_of c)) known) (sym o.standing)
           (subst (λ (ls : List Literal). StandsFor net.limits.conflicts (that (condition_of c.terms ls)) (Inputs [])) (sym o.cond) (nothing_asked net.limits.conflicts));
-      bare = record { losses = bare.loss; duplications = bare.duplicate; reboots = bare.reboot; senders = tt };
+      senders = tt;
     }
 
 opened_at : (ps : List Plan) (k : ℕ) → opening_node terms (get_or ps k no_plan) ≡ get_or (map (opening_node terms) ps) k (opening_node terms no_plan)
@@ -102,8 +100,8 @@ opened_at (p ∷ ps) zero = refl
 opened_at (p ∷ ps) (suc k) = opened_at ps k
 
 -- The network at its start, kept node by node, is a copy of the opening.
-pub opening_copy : (net : Network) (xs : List NodeView) → IsBare net → length xs ≡ length net.nodes → AreStarts net 0 xs → IsCopy net 0 xs (opening terms net)
-opening_copy net xs bare same starts = record {
+pub opening_copy : (net : Network) (xs : List NodeView) → length xs ≡ length net.nodes → AreStarts net 0 xs → IsCopy net 0 xs (opening terms net)
+opening_copy net xs same starts = record {
   whole = length-map net.nodes (opening_node terms);
   nodes = nodes_from net 0 0 xs (map (opening_node terms) net.nodes) no_node (opening_node terms no_plan) (same ∙ sym (length-map net.nodes (opening_node terms))) each;
 }
@@ -112,7 +110,6 @@ opening_copy net xs bare same starts = record {
     each n inside =
         let long = length-map net.nodes (opening_node terms) in
         let zero_n : 0 + n ≡ n = omega arith in
-        let plain : IsBarePlan (plan_of net n) = all-get_or IsBarePlan net.nodes n no_plan bare (record { loss = refl; duplicate = refl; reboot = refl }) in
         let one : IsStart net n (get_or xs n no_node) = subst (λ (k : ℕ). IsStart net k (get_or xs n no_node)) zero_n (start_at net 0 xs n no_node starts (omega (arith, inside, long, same))) in
         subst (λ (k : ℕ). IsNode net 0 k (get_or xs n no_node) (get_or (map (opening_node terms) net.nodes) n (opening_node terms no_plan))) (sym zero_n)
-        (subst (IsNode net 0 n (get_or xs n no_node)) (opened_at net.nodes n) (start_node net n (get_or xs n no_node) plain one))
+        (subst (IsNode net 0 n (get_or xs n no_node)) (opened_at net.nodes n) (start_node net n (get_or xs n no_node) one))

@@ -29,16 +29,16 @@ use Rattle.kn_model.proofs.AlikePrefixes.{alike_prefixes}
 use Rattle.kn_model.proofs.Sending.{sends_later}
 use Rattle.kn_model.proofs.Settling.{put_all_counts, get_or-set_same, length-posted, all-both}
 use Rattle.kn_model.proofs.Commuting.{get_or-posted}
-use Rattle.kn_step.specs.Views.{packet_of, state_of}
-use Rattle.kn_step.specs.Paths.{PathView, path_seen}
+use Rattle.kn_machine.specs.Views.{packet_of, state_of}
+use Rattle.kn_machine.specs.Paths.{PathView, path_seen}
 use Rattle.kn_step.specs.Given.{IsKept, AreKept}
 use Rattle.kn_step.specs.Laws.{bits_of}
 use Rattle.kn_step.specs.Answers.{IsReady, paths_from, AreRun, AreTooMany}
 use Rattle.kn_step.proofs.OverLimit.{over_means}
-use Rattle.kn_cob.specs.Nodes.{NodeView, waiting, IsBareState, IsNode}
+use Rattle.kn_cob.specs.Nodes.{NodeView, waiting, AreFrom, IsNode}
 use Rattle.kn_cob.specs.Copies.{IsCopy, AreCopies, node_in, along}
 use Rattle.kn_cob.proofs.EachNode.{in_copy, nodes_set}
-use Rattle.kn_cob.proofs.Bare.{bare_paths}
+use Rattle.kn_cob.proofs.Senders.{senders_paths}
 use Rattle.kn_cob.proofs.Sending.{mailed_nodes, as_parcels}
 
 -- what is said of the packets of a queue that packets were put into is said of those that were there before
@@ -81,10 +81,7 @@ module _ (net : Network) (t n : ℕ) (x : NodeView) (y : Node Term) (h : IsNode 
     standing = h.standing;
     senders = unmapped (length net.nodes) x.config.machine.queue
         (all_before (λ (p : Packet Term). p.from < length net.nodes) (map packet_of x.inbox) (map packet_of x.config.machine.queue)
-        (senders_alike (length net.nodes) (waiting x).queue y.state.queue h.alike.queue h.bare.senders));
-    losses = h.alike.losses ∙ h.bare.losses;
-    duplications = h.alike.duplications ∙ h.bare.duplications;
-    reboots = h.alike.reboots ∙ h.bare.reboots;
+        (senders_alike (length net.nodes) (waiting x).queue y.state.queue h.alike.queue h.senders));
   }
 
   pub due_node : due net.limits.ticks t (state_of x.config) ≡ due net.limits.ticks t y.state
@@ -151,14 +148,14 @@ module _ (net : Network) (t n : ℕ) (x : NodeView) (y : Node Term) (h : IsNode 
       all-weaker (IsPrefix net.limits.conflicts (state_of x.config) (paths terms net n t (state_of x.config))) (IsPrefix net.limits.conflicts y.state (paths terms net n t y.state)) prefix_node bits
       (subst (λ (k : ℕ). AllByRecursion (IsPrefix net.limits.conflicts (state_of x.config) (paths terms net k t (state_of x.config))) bits) h.of_node all)
 
--- a path ends in a bare state, and what it sent is from its node and comes later
+-- after a path what waits is from nodes of the network, and what it sent is from its node and comes later
 abbrev IsSound : Network → (t n : ℕ) → Path Term → Type 0
-IsSound net t n q = IsBareState net q.state × AllByRecursion (IsSentBy n t) q.sends
+IsSound net t n q = AreFrom net q.state.queue × AllByRecursion (IsSentBy n t) q.sends
 
-sound_paths : (net : Network) (t n : ℕ) (e : Event) (s : State Term) → IsNet net → IsBareState net s → AllByRecursion (IsSound net t n) (event_paths terms net n t e s)
-sound_paths net t n e s good bare =
-    all-both (λ (q : Path Term). IsBareState net q.state) (λ (q : Path Term). AllByRecursion (IsSentBy n t) q.sends) (IsSound net t n) (λ q a b. (a, b)) (event_paths terms net n t e s)
-    (bare_paths net n t e s bare) (sends_later net n t e s good)
+sound_paths : (net : Network) (t n : ℕ) (e : Event) (s : State Term) → IsNet net → AreFrom net s.queue → AllByRecursion (IsSound net t n) (event_paths terms net n t e s)
+sound_paths net t n e s good senders =
+    all-both (λ (q : Path Term). AreFrom net q.state.queue) (λ (q : Path Term). AllByRecursion (IsSentBy n t) q.sends) (IsSound net t n) (λ q a b. (a, b)) (event_paths terms net n t e s)
+    (senders_paths net n t e s senders) (sends_later net n t e s good)
 
 -- the copies of an event of node n
 module _ (net : Network) (t n : ℕ) (xs : List NodeView) (s : Scenario Term) (e : Event) (inside : n < length net.nodes) (c : IsCopy net t xs s) where
@@ -180,15 +177,15 @@ module _ (net : Network) (t n : ℕ) (xs : List NodeView) (s : Scenario Term) (e
   whole_copied : (q : Path Term) → length (copied terms s n e q).nodes ≡ length net.nodes
   whole_copied q = length-posted 0 (parcels terms node_n q) (set s.nodes n (node_after terms e node_n q)) ∙ (length-set s.nodes n (node_after terms e node_n q) ∙ c.whole)
 
-  node_along : (p : PathView) (q : Path Term) → AlikePath (path_with inbox_n (path_seen p)) q → IsKept net.limits.conflicts at_n.config.node at_n.config.history p → IsBareState net q.state → IsNode net t n (record at_n { config = p.config }) (node_after terms e node_n q)
-  node_along p q alike kept bare = record {
+  node_along : (p : PathView) (q : Path Term) → AlikePath (path_with inbox_n (path_seen p)) q → IsKept net.limits.conflicts at_n.config.node at_n.config.history p → AreFrom net q.state.queue → IsNode net t n (record at_n { config = p.config }) (node_after terms e node_n q)
+  node_along p q alike kept senders = record {
     of_node = kept.of_node ∙ is_n.of_node;
     of_history = kept.of_history ∙ is_n.of_history;
     alike = alike.state;
     guards = is_n.guards;
     later = is_n.later;
     standing = kept.standing;
-    bare = bare;
+    senders = senders;
   }
 
   one_copy : (p : PathView) (q : Path Term) → AlikePath (path_with inbox_n (path_seen p)) q → IsKept net.limits.conflicts at_n.config.node at_n.config.history p → IsSound net t n q → IsCopy net t (along xs n p) (copied terms s n e q)
@@ -234,7 +231,7 @@ event_copies net t n xs s e ps good inside c run =
     let h = in_copy net t n xs s inside c in
     let is : due net.limits.ticks t y.state ≡ Some e = sym (due_same net t n xs s inside c) ∙ run.due in
     subst (λ (o : Option Event). AreCopies net t (map (along xs n) ps) (copies_of terms net n t s o)) (sym is)
-    (all_copies net t n xs s e inside c ps (event_paths terms net n t e y.state) (given_node net t n x y h e (map path_seen ps) run.given) run.kept (sound_paths net t n e y.state good h.bare))
+    (all_copies net t n xs s e inside c ps (event_paths terms net n t e y.state) (given_node net t n x y h e (map path_seen ps) run.given) run.kept (sound_paths net t n e y.state good h.senders))
 
 -- An event with too many paths has so of the definition's node.
 pub over_paths : (net : Network) (t n : ℕ) (xs : List NodeView) (s : Scenario Term) (e : Event) (ps : List PathView) → IsNet net → IsCopy net t xs s → MetAt terms net t n s → AreTooMany net t (node_in xs n).config e ps → TooManyPaths net t

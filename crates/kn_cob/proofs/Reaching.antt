@@ -19,7 +19,7 @@ use Rattle.kn_model.proofs.AlikeStandings.{alike_standings}
 use Rattle.kn_model.proofs.Naming.{Name, HaveNodes, distinct_names, close_names, copy_fits}
 use Rattle.kn_model.proofs.PicksRun.{map-in}
 use Rattle.kn_model.proofs.Stamped.{In, in-flat}
-use Rattle.kn_step.specs.Views.{own_of}
+use Rattle.kn_machine.specs.Views.{own_of}
 use Rattle.kn_cob.specs.Nodes.{NodeView}
 use Rattle.kn_cob.specs.Copies.{AreNodes, IsCopy, AreCopies}
 use Rattle.kn_cob.specs.Among.{Among}

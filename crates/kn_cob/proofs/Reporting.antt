@@ -16,7 +16,7 @@ use Rattle.kn_solve.specs.declared.judge.Judged.TheVariants as judged
 use Rattle.kn_solve.specs.Formulas.{Asked}
 use Rattle.kn_solve.specs.Verdicts.{IsJudged}
 use Rattle.kn_report.specs.Views.{lists_of}
-use Rattle.kn_step.specs.Views.{own_of}
+use Rattle.kn_machine.specs.Views.{own_of}
 use Rattle.kn_cob.specs.Reports.{line_of, lines_from, numbers, dstates_from, is_failed, failed_from, joint_of, IsJoint, IsOfScenario, IsReportOf, reach_by, reached_at, AreFailuresOf}
 use Rattle.kn_cob.proofs.Numbered.{some_one, none_some, length-lines_from}
 

@@ -23,11 +23,11 @@ use Rattle.kn_model.proofs.OneByOne.{pairs-map}
 use Rattle.kn_model.proofs.JoinedQuery.{reads_append}
 use Rattle.kn_model.proofs.AlikeTerms.{joins, holds_join, condition_self, condition_through}
 use Rattle.kn_model.proofs.AlikeGiven.{alike_received}
-use Rattle.kn_step.specs.Views.{packet_of, state_of}
+use Rattle.kn_machine.specs.Views.{packet_of, state_of}
 use Rattle.kn_step.specs.Answers.{guards_of}
 use Rattle.kn_cob.specs.Nodes.{NodeView, waiting, guards_in, IsNode}
 use Rattle.kn_cob.specs.Copies.{AreNodes, sent_to, mailed}
-use Rattle.kn_cob.proofs.Bare.{bare_given}
+use Rattle.kn_cob.proofs.Senders.{senders_given}
 
 put_all-append : (ps qs q : List (Packet Term)) → put_all packet_le (ps ++ qs) q ≡ put_all packet_le qs (put_all packet_le ps q)
 put_all-append [] qs q = refl
@@ -136,7 +136,7 @@ module _ (net : Network) (t n : ℕ) (ps : List PacketView) (qs : List (Parcel T
             (joins (guards_of x.inbox) (guards_in y.fresh) (guards_of those) (guards_in theirs) h.guards (guards_alike those theirs one)) (put_guards theirs y.fresh));
         later = all-append (IsLaterSend t) x.inbox those h.later (all-filter (IsLaterSend t) (λ (p : PacketView). nat_eq p.to i) ps (later_sends n t ps qs same sent));
         standing = h.standing;
-        bare = bare_given net theirs y (all-filter (λ (q : Parcel Term). q.packet.from < length net.nodes) (λ (q : Parcel Term). nat_eq q.packet.to i) qs from_nodes) h.bare;
+        senders = senders_given net theirs y (all-filter (λ (q : Parcel Term). q.packet.from < length net.nodes) (λ (q : Parcel Term). nat_eq q.packet.to i) qs from_nodes) h.senders;
       }
     where
       from_nodes : AllByRecursion (λ (q : Parcel Term). q.packet.from < length net.nodes) qs

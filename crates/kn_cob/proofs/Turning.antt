@@ -17,8 +17,8 @@ use Rattle.kn_model.specs.Shapes.{IsLost}
 use Rattle.kn_model.specs.Laws.{IsNet}
 use Rattle.kn_model.proofs.OwnGrows.{close_lost}
 use Rattle.kn_model.proofs.Settling.{enough}
-use Rattle.kn_step.specs.Views.{state_of, own_of}
-use Rattle.kn_step.specs.Paths.{PathView}
+use Rattle.kn_machine.specs.Views.{state_of, own_of}
+use Rattle.kn_machine.specs.Paths.{PathView}
 use Rattle.kn_step.specs.declared.path.LimitKind.{LimitKind}
 use Rattle.kn_step.specs.declared.path.LimitKind.TheVariants as kinds
 use Rattle.kn_step.specs.declared.path.LimitAt.{LimitAt}

@@ -5,7 +5,7 @@ use Rattle.kn_cond.specs.Conditions.{that, StandsFor}
 use Rattle.kn_node.specs.Views.{ConfigView}
 use Rattle.kn_node.specs.Opening.{IsOpened}
 use Rattle.kn_plan.specs.Nets.{Network, plan_of}
-use Rattle.kn_step.specs.Views.{own_of}
+use Rattle.kn_machine.specs.Views.{own_of}
 use Rattle.kn_step.specs.Answers.{IsReceived, IsRefused}
 use Rattle.kn_model.specs.Alikes.{OneByOne}
 use Rattle.kn_cob.specs.Nodes.{NodeView}

@@ -8,7 +8,7 @@ use Rattle.kn_model.specs.Nodes.{Node}
 use Rattle.kn_model.specs.Nets.{Network, no_plan}
 use Rattle.kn_model.specs.Scenarios.{Scenario}
 use Rattle.kn_model.specs.Shapes.{IsLost}
-use Rattle.kn_step.specs.Paths.{PathView}
+use Rattle.kn_machine.specs.Paths.{PathView}
 use Rattle.kn_cob.specs.Nodes.{NodeView, IsNode}
 
 -- the nodes from n on, one by one

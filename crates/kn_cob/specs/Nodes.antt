@@ -1,5 +1,5 @@
 -- A node in a tick as it is kept, and the definition's node that it is of.
-use Rattle.std.specs.Prelude.{◌≡◌, ℕ, ◌<◌, List, [], length, map, flat_map}
+use Rattle.std.specs.Prelude.{◌≡◌, ℕ, ◌<◌, List, length, map, flat_map}
 use Rattle.std.specs.List.{AllByRecursion}
 use Rattle.kn_term.specs.Terms.{Term}
 use Rattle.kn_cond.specs.Conditions.{Condition, that, StandsFor}
@@ -10,7 +10,7 @@ use Rattle.kn_model.specs.Nodes.{State, Node}
 use Rattle.kn_model.specs.Nets.{Network}
 use Rattle.kn_model.specs.Alikes.{Alike, ConditionAlike}
 use Rattle.kn_model.specs.Laws.{queued_all}
-use Rattle.kn_step.specs.Views.{packet_of, own_of, state_of}
+use Rattle.kn_machine.specs.Views.{packet_of, own_of, state_of}
 use Rattle.kn_step.specs.Answers.{guards_of}
 
 -- a node's state, and the packets that it was sent in this tick, in the order in which they were sent
@@ -26,15 +26,12 @@ waiting x = queued_all (map packet_of x.inbox) (state_of x.config)
 abbrev pub guards_in : List (Parcel Term) → Condition
 guards_in ps = flat_map (λ (p : Parcel Term). p.packet.guard) ps
 
--- it loses no packet, is given none twice, and never boots again; and what waits is from nodes of the network
-pub record IsBareState (net : Network) (s : State Term) : Type 0 where
-  pub losses : s.losses ≡ 0
-  pub duplications : s.duplications ≡ 0
-  pub reboots : s.reboots ≡ []
-  pub senders : AllByRecursion (λ (p : Packet Term). p.from < length net.nodes) s.queue
+-- packets from nodes of the network
+abbrev pub AreFrom : Network → List (Packet Term) → Type 0
+AreFrom net ps = AllByRecursion (λ (p : Packet Term). p.from < length net.nodes) ps
 
 -- what is kept of node n in tick t, and the definition's node: alike with what was sent in the queue, and as much is asked by
--- what was sent; and what is known of its own condition is right
+-- what was sent; what is known of its own condition is right; and what waits is from nodes of the network
 pub record IsNode (net : Network) (t n : ℕ) (x : NodeView) (y : Node Term) : Type 0 where
   pub of_node : x.config.node ≡ n
   pub of_history : x.config.history ≡ 0
@@ -42,4 +39,4 @@ pub record IsNode (net : Network) (t n : ℕ) (x : NodeView) (y : Node Term) : T
   pub guards : ConditionAlike (guards_of x.inbox) (guards_in y.fresh)
   pub later : AllByRecursion (λ (p : PacketView). (t < p.arrival) × (p.copy ≡ 0)) x.inbox
   pub standing : StandsFor net.limits.conflicts (that (own_of x.config)) x.config.standing
-  pub bare : IsBareState net y.state
+  pub senders : AreFrom net y.state.queue

@@ -8,7 +8,7 @@ use Rattle.kn_model.specs.Nets.{Network}
 use Rattle.kn_model.specs.Reports.{Report, StateLine, FailureLine, Reach, At, Undecided, Nowhere, Cob, singles}
 use Rattle.kn_solve.specs.declared.judge.Judged.{Judged}
 use Rattle.kn_solve.specs.declared.judge.Judged.TheVariants as judged
-use Rattle.kn_step.specs.Views.{own_of, outcome_of}
+use Rattle.kn_machine.specs.Views.{own_of, outcome_of}
 
 -- the line of node n's state, with what is known of its own condition
 abbrev pub line_of : ℕ → ConfigView → StateLine

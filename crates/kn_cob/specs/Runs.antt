@@ -5,7 +5,6 @@ use Rattle.std.specs.Cmp.Lexicographic.{slice_cmp}
 use Rattle.kn_term.specs.Terms.{Term}
 use Rattle.kn_cond.specs.Conditions.{that, StandsFor}
 use Rattle.kn_node.specs.Views.{ConfigView}
-use Rattle.kn_plan.specs.Nets.{Plan}
 use Rattle.kn_model.specs.Nodes.{Node}
 use Rattle.kn_model.specs.Nets.{Network}
 use Rattle.kn_model.specs.Scenarios.{Scenario, name_of}
@@ -13,17 +12,7 @@ use Rattle.kn_model.specs.Alikes.{Alike}
 use Rattle.kn_model.specs.Cores.{HasImpossible}
 use Rattle.kn_model.specs.Shapes.{IsLost}
 use Rattle.kn_model.specs.Reports.{ends, Rises, trace_cmp}
-use Rattle.kn_step.specs.Views.{own_of, state_of}
-
--- a node that loses and doubles no packet, and does not reboot
-pub record IsBarePlan (p : Plan) : Type 0 where
-  pub loss : p.loss ≡ 0
-  pub duplicate : p.duplicate ≡ 0
-  pub reboot : p.reboot ≡ []
-
--- all nodes are so
-abbrev pub IsBare : Network → Type 0
-IsBare net = AllByRecursion IsBarePlan net.nodes
+use Rattle.kn_machine.specs.Views.{own_of, state_of}
 
 -- what is kept of node n, and the definition's node: alike, and what is known of its own condition is right
 pub record IsEnd (net : Network) (n : ℕ) (c : ConfigView) (y : Node Term) : Type 0 where

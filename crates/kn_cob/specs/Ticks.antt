@@ -12,7 +12,7 @@ use Rattle.kn_node.specs.Due as kept
 use Rattle.kn_node.specs.Views.{ConfigView}
 use Rattle.kn_model.specs.Alikes.{MetAt}
 use Rattle.kn_step.specs.Answers.{AreRun, AreTooMany}
-use Rattle.kn_step.specs.Paths.{PathView}
+use Rattle.kn_machine.specs.Paths.{PathView}
 use Rattle.kn_step.specs.declared.path.LimitKind.{LimitKind}
 use Rattle.kn_step.specs.declared.path.LimitKind.TheVariants as kinds
 use Rattle.kn_cob.specs.Nodes.{NodeView}

@@ -8,12 +8,12 @@ ghost use Rattle.kn_model.specs.Laws.{IsNet};
 ghost use Rattle.kn_model.specs.Due.{due as due_in};
 ghost use Rattle.kn_node.specs.Due.{due};
 ghost use Rattle.kn_model.specs.Scenarios.{Scenario as Scenarios, close, copies, settled, cob, pre};
-ghost use Rattle.kn_step.specs.Views.{state_of};
+ghost use Rattle.kn_machine.specs.Views.{state_of};
 ghost use Rattle.kn_step.specs.Answers.{IsReady, AreRun};
 ghost use Rattle.kn_cob.specs.Copies.{IsCopy, AreCopies, node_in, along};
 ghost use Rattle.kn_cob.specs.Closing.{AreShut, IsStanding, configs_in};
 ghost use Rattle.kn_cob.specs.Ticks.{AreIdleUntil, IsMetCopy, AreTurned, IsSettling, IsRun, so_far, some_due, StopsAt, StopsIn, IsPassed};
-ghost use Rattle.kn_cob.specs.Runs.{IsBare, AreScenarios};
+ghost use Rattle.kn_cob.specs.Runs.{AreScenarios};
 
 use crate::copies::NetworkCopy;
 use crate::node::node_count;
@@ -330,7 +330,6 @@ fn copies_at_end<L: Ledger>(
     steps: &mut Steps<L>,
 ) -> Result<Vec<NetworkCopy>, Stop>
     requires sound { IsNet net.now.network }
-    requires bare { IsBare net.now.network }
     ensures given { IfOk result (λ v. AreCopies net.now.network net.now.network.limits.ticks v.items (cob terms net.now.network net.now.network.limits.ticks)) }
     ensures shut { IfOk result (λ v. AllByRecursion AreShut v.items) }
     ensures few { IfOk result (λ v. length v.items ≤ net.now.network.limits.dstates) }
@@ -367,7 +366,6 @@ fn scenarios_of(alloc: Global, copies: &[NetworkCopy]) -> Result<Vec<Scenario>, 
 /// condition no inputs meet. It counts the events that it runs. Err: a limit of the network was passed, by the prefixes of
 /// an event's paths (states) or by the copies at hand (dstates), or memory is wanting.
 pub fn explore_cob<L: Ledger>(net: &Net, steps: &mut Steps<L>) -> Result<CobRun, Stop>
-    requires { IsBare net.now.network }
     ensures scenarios { IfOk result (λ r. AreScenarios net.now.network r) }
     ensures passed { IfErr result (IsPassed net.now.network) }
 {

@@ -5,7 +5,7 @@ ghost use Rattle.kn_cond.specs.Conditions.{that};
 ghost use Rattle.kn_model.specs.Reports.{Cob, FailureLine as Line, Gives, singles};
 ghost use Rattle.kn_report.specs.Views.{reach_of};
 ghost use Rattle.kn_solve.specs.Verdicts.{IsJudged};
-ghost use Rattle.kn_step.specs.Views.{outcome_of};
+ghost use Rattle.kn_machine.specs.Views.{outcome_of};
 ghost use Rattle.kn_cob.specs.Runs.{AreScenarios};
 ghost use Rattle.kn_cob.specs.Reports.{line_of, lines_from, numbers, is_failed, failed_from, joint_of, reach_by, reached_at, AreLong, AreFailuresOf, IsReportOf};
 

@@ -5,7 +5,7 @@ ghost use Rattle.std.specs.Arc.{arc_value};
 ghost use Rattle.kn_cond.specs.Conditions.{that, StandsFor};
 ghost use Rattle.kn_plan.specs.Nets.{plan_of};
 ghost use Rattle.kn_node.specs.Opening.{IsOpened};
-ghost use Rattle.kn_step.specs.Views.{own_of};
+ghost use Rattle.kn_machine.specs.Views.{own_of};
 ghost use Rattle.kn_cob.specs.Copies.{sent_to};
 ghost use Rattle.kn_cob.specs.Closing.{OnClosed};
 

@@ -1,7 +1,7 @@
 //! Copying on branch on a small network: two nodes that take an input of one bit and branch on it.
 
 ghost use Rattle.std.specs.Prelude.{◌≡◌, ◌<◌, ◌∷◌, [], IfOk};
-ghost use Rattle.kn_cob.specs.Runs.{IsBare, AreScenarios};
+ghost use Rattle.kn_cob.specs.Runs.{AreScenarios};
 
 use super::*;
 use kn_code::{Program, decode};
@@ -91,7 +91,6 @@ fn explored<L: Ledger>(net: &Net, blank: Blank) -> Result<CobRun, Stop>
     requires name { blank.name ≡ L.name }
     requires parts { blank.parts ≡ L.parts }
     requires some { 0 < L.parts }
-    requires bare { IsBare net.now.network }
     ensures { IfOk result (λ r. AreScenarios net.now.network r) }
 {
     let mut steps: Steps<L> = Steps::new(blank);

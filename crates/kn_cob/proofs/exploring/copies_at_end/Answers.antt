@@ -22,7 +22,7 @@ loop-tick-init g c =
     let one = ap length list in
     let least = c.bounds.ensures.network.limits.some_dstates in
     record {
-      made = subst (λ (l : List (List NodeView)). AreCopies net 0 l (opening terms net ∷ [])) (sym list) (inl (opening_copy net xs c.requires.bare opened.whole opened.starts, tt));
+      made = subst (λ (l : List (List NodeView)). AreCopies net 0 l (opening terms net ∷ [])) (sym list) (inl (opening_copy net xs opened.whole opened.starts, tt));
       shut = subst (AllByRecursion AreShut) (sym list) (starts_shut net 0 xs opened.starts, tt);
       few = omega (arith, one, least);
       idle = λ t after before. absurd (omega (arith, before));

@@ -1,7 +1,7 @@
 -- One own condition more.
 use Rattle.std.proofs.Common.{ap, ◌∙◌}
 use Rattle.kn_solve.specs.Formulas.{Asked}
-use Rattle.kn_step.specs.Views.{own_of}
+use Rattle.kn_machine.specs.Views.{own_of}
 use Rattle.kn_cob.specs.Reports.{joint_of}
 use Rattle.kn_cob.proofs.Reporting.{joint_step}
 use Rattle.kn_cob.proofs.making.joint_of.Goals as goal

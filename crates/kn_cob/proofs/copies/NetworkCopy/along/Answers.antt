@@ -4,7 +4,7 @@ use Rattle.std.specs.Prelude.{slice_set}
 use Rattle.std.proofs.lemmas.List.{nil_from_length}
 use Rattle.std.proofs.lemmas.Bool.{eqb-true}
 use Rattle.kn_node.specs.Views.{ConfigView}
-use Rattle.kn_step.specs.Paths.{PathView}
+use Rattle.kn_machine.specs.Paths.{PathView}
 use Rattle.kn_cob.specs.Copies.{node_in}
 use Rattle.kn_cob.proofs.Idle.{mailed_none}
 use Rattle.kn_cob.proofs.copies.NetworkCopy.along.Goals as goal
