@@ -1,6 +1,6 @@
 -- How a call of the program ends.
 use Rattle.std.proofs.Common.{◌≡◌, inl, inr, ℕ, zero, suc, ◌+◌, ◌≤◌, ◌<◌, Bool, true, false, cond, List, Option, Some, None, Result, Ok, Err, refl, sym, ap, subst, ◌∙◌, ◌++◌, arith}
-use Rattle.std.specs.Prelude.{OnOk, OnErr, is_ok, IsTrue, ◌↔◌, nat_eq, codes, decimal}
+use Rattle.std.specs.Prelude.{OnOk, OnErr, is_ok, nat_eq, codes, decimal}
 use Rattle.std.specs.Io.KnownBytes.{Appends, Keeps}
 use Rattle.std.proofs.lemmas.Bool.{eqb-true}
 use Rattle.std.proofs.lemmas.List.{append_assoc}
@@ -12,12 +12,16 @@ use Rattle.kn_report.specs.declared.status.Status.{Status}
 use Rattle.kn_report.specs.declared.status.Status.TheVariants as statuses
 use Rattle.kn_report.specs.Texts.{reached_in, open_in}
 use Rattle.kn_plan.specs.Files.{File}
-use Rattle.kn_netfile.specs.Faults.{Fault, everywhere}
+use Rattle.kn_netfile.specs.Faults.{Fault}
 use Rattle.kn_netfile.specs.Reading.{file_of}
 use Rattle.netsym.specs.declared.answer.Unanswered.{Unanswered}
 use Rattle.netsym.specs.declared.answer.Unanswered.TheVariants as unanswered
-use Rattle.netsym.specs.Refusals.{IsAccepted, IsRefusal, RunsNow, SaysWhy, Tells, not_yet, refusal_line}
-use Rattle.netsym.specs.Runs.{IsCommand, IsRight, IsWritten, IsReportOn, IsTold, IsEither, Reads, Answers, limit, limit_line}
+use Rattle.netsym.specs.Refusals.{IsAccepted, IsRefusal, SaysWhy, Tells, refusal_line}
+use Rattle.kn_replay.specs.Views.{states_in}
+use Rattle.kn_replay.specs.Texts.{failed_in}
+use Rattle.netsym.specs.declared.command.Command.{Command}
+use Rattle.netsym.specs.declared.command.Command.TheVariants as commands
+use Rattle.netsym.specs.Runs.{IsCommandOf, IsRight, IsWritten, IsReportOn, IsRunOn, IsTold, IsReplayed, IsEither, Reads, Answers, Explores, Replays, limit, limit_line}
 
 pub written_by : {T E : Type 0} (taken taken' : Option (List ℕ)) (text : List ℕ) (verdict status : Status) (r : Result T E) → status ≡ cond (is_ok r) verdict statuses.WriteFault
     → OnOk r (Appends taken taken' text) → OnErr r ((rest : List ℕ) × TakesFront taken taken' text rest) → IsWritten taken taken' text verdict status
@@ -27,12 +31,6 @@ written_by taken taken' text verdict status (Err e) is whole front = inr (is, fr
 pub keeps_same : (a : Option (List ℕ)) → Keeps a a
 keeps_same None = tt
 keeps_same (Some xs) = refl
-
-pub not_command : {P : Type 0} (b : Bool) → (IsTrue b ↔ P) → b ≡ false → P → ⊥
-not_command b h e p = let yes : b ≡ true = h.1 p in let both : true ≡ false = sym yes ∙ e in cc
-
-pub is_command : {P : Type 0} (b : Bool) → (IsTrue b ↔ P) → b ≡ true → P
-is_command b h e = h.0 e
 
 -- what was read to its end was taken
 pub taken_whole : (left left' : Option (List ℕ)) (bytes : List ℕ) → Reads left left' bytes → TakesAtMost (limit + 1) left left'
@@ -54,22 +52,17 @@ pub fault_why : (bytes : List ℕ) (e : Unanswered) (number : ℕ) (place : List
 fault_why bytes (unanswered.Refused line) number place told is = subst (λ (r : Result File Fault). IsRefusal r line.items) (sym is) told
 fault_why bytes (unanswered.Memory e) number place told is = tt
 
--- a refusal of a network that does not run now
-pub not_yet_why : (bytes : List ℕ) (e : Unanswered) (file : File) → Tells not_yet everywhere e → file_of bytes ≡ Ok file → (RunsNow file.network → ⊥) → SaysWhy bytes e
-not_yet_why bytes (unanswered.Refused line) file told is never = subst (λ (r : Result File Fault). IsRefusal r line.items) (sym is) (never, told)
-not_yet_why bytes (unanswered.Memory e) file told is never = tt
+some : (n : ℕ) → nat_eq n 0 ≡ false → 1 ≤ n
+some n e = elim (n) as (λ (m : ℕ). nat_eq m 0 ≡ false → 1 ≤ m) [ zero ↦ λ h. absurd cc | suc m ↦ λ h. omega arith ] e
 
 -- the report on the network of the file
-told_answers : (bytes : List ℕ) (net : Network) (status : Status) (text : List ℕ) → IsAccepted bytes net → IsTold net status text → Answers bytes status text
-told_answers bytes net status text accepted told = subst (λ (s : Status). Answers bytes s text) (sym told.status_is) (go (nat_eq (reached_in told.report) 0) refl (nat_eq (open_in told.report) 0) refl)
+told_answers : (bytes : List ℕ) (net : Network) (status : Status) (text : List ℕ) → IsAccepted bytes net → IsTold net status text → Explores bytes status text
+told_answers bytes net status text accepted told = subst (λ (s : Status). Explores bytes s text) (sym told.status_is) (go (nat_eq (reached_in told.report) 0) refl (nat_eq (open_in told.report) 0) refl)
   where
     on : IsReportOn bytes text told.report
     on = record { net = net; accepted = accepted; given = told.given; mapping = told.mapping; within = told.within; text_is = told.text_is }
 
-    some : (n : ℕ) → nat_eq n 0 ≡ false → 1 ≤ n
-    some n e = elim (n) as (λ (m : ℕ). nat_eq m 0 ≡ false → 1 ≤ m) [ zero ↦ λ h. absurd cc | suc m ↦ λ h. omega arith ] e
-
-    go : (b : Bool) → nat_eq (reached_in told.report) 0 ≡ b → (o : Bool) → nat_eq (open_in told.report) 0 ≡ o → Answers bytes (cond b (cond o statuses.Clean statuses.Open) statuses.Found) text
+    go : (b : Bool) → nat_eq (reached_in told.report) 0 ≡ b → (o : Bool) → nat_eq (open_in told.report) 0 ≡ o → Explores bytes (cond b (cond o statuses.Clean statuses.Open) statuses.Found) text
     go true e true o = (told.report, on, eqb-true (reached_in told.report) 0 e, eqb-true (open_in told.report) 0 o)
     go true e false o = (told.report, on, eqb-true (reached_in told.report) 0 e, some (open_in told.report) o)
     go false e decided o = (told.report, on, some (reached_in told.report) e)
@@ -79,23 +72,47 @@ pub limited_either : (net : Network) (kind : Limit) (tick : ℕ) (status : Statu
 limited_either net kind tick status text over limited is =
     inr (limited, record { passes = record { kind = kind; tick = tick; early = over.0; over = over.1 }; text_is = is })
 
--- the answer on the network of the file
-pub either_answers : (bytes : List ℕ) (net : Network) (status : Status) (text : List ℕ) → IsAccepted bytes net → IsEither net status text → Answers bytes status text
-either_answers bytes net status text accepted (inl told) = told_answers bytes net status text accepted told
-either_answers bytes net status text accepted (inr large) = subst (λ (s : Status). Answers bytes s text) (sym large.0) (net, accepted, large.1)
+-- the network of the file is explored
+pub explored_answers : (bytes : List ℕ) (file : File) (status : Status) (text : List ℕ) → file_of bytes ≡ Ok file → IsEither file.network status text → Explores bytes status text
+explored_answers bytes file status text given (inl told) = told_answers bytes file.network status text (record { file = file; given = given; network = refl }) told
+explored_answers bytes file status text given (inr large) = subst (λ (s : Status). Explores bytes s text) (sym large.0) (file.network, record { file = file; given = given; network = refl }, large.1)
+
+-- the network of the file is replayed
+pub replayed_answers : (bytes : List ℕ) (file : File) (status : Status) (text : List ℕ) → file_of bytes ≡ Ok file → IsReplayed file status text → Replays bytes status text
+replayed_answers bytes file status text given told = subst (λ (s : Status). Replays bytes s text) (sym told.status_is) (go (nat_eq failed 0) refl)
+  where
+    failed : ℕ
+    failed = failed_in (states_in told.run.nodes)
+
+    on : IsRunOn bytes text told.run
+    on = record { file = file; given = given; is = told.is; text_is = told.text_is }
+
+    go : (b : Bool) → nat_eq failed 0 ≡ b → Replays bytes (cond b statuses.Clean statuses.Found) text
+    go true e = (told.run, on, eqb-true failed 0 e)
+    go false e = (told.run, on, some failed e)
 
 -- what is right for the bytes is right for the source that had them
-pub right_by : (words : List (List ℕ)) (left left' : Option (List ℕ)) (bytes : List ℕ) (status : Status) (text : List ℕ) → IsCommand words → Reads left left' bytes → Answers bytes status text → IsRight words left left' status text
-right_by words left left' bytes statuses.Clean text command reads h = (command, bytes, reads, h)
-right_by words left left' bytes statuses.Found text command reads h = (command, bytes, reads, h)
-right_by words left left' bytes statuses.Open text command reads h = (command, bytes, reads, h)
-right_by words left left' bytes statuses.Refused text command reads h = (command, inr (bytes, reads, h))
-right_by words left left' bytes statuses.Usage text command reads h = absurd h
-right_by words left left' bytes statuses.ReadFault text command reads h = absurd h
-right_by words left left' bytes statuses.WriteFault text command reads h = absurd h
-right_by words left left' bytes statuses.Memory text command reads h = absurd h
-right_by words left left' bytes statuses.Limit text command reads h = (command, bytes, reads, h)
+pub right_by : (words : List (List ℕ)) (left left' : Option (List ℕ)) (command : Command) (bytes : List ℕ) (status : Status) (text : List ℕ) → IsCommandOf command words → Reads left left' bytes → Answers command bytes status text → IsRight words left left' status text
+right_by words left left' command bytes statuses.Clean text is reads h = (command, is, bytes, reads, h)
+right_by words left left' command bytes statuses.Found text is reads h = (command, is, bytes, reads, h)
+right_by words left left' commands.Explore bytes statuses.Open text is reads h = (is, bytes, reads, h)
+right_by words left left' commands.Explore bytes statuses.Refused text is reads h = ((commands.Explore, is), inr (bytes, reads, h))
+right_by words left left' commands.Explore bytes statuses.Usage text is reads h = absurd h
+right_by words left left' commands.Explore bytes statuses.ReadFault text is reads h = absurd h
+right_by words left left' commands.Explore bytes statuses.WriteFault text is reads h = absurd h
+right_by words left left' commands.Explore bytes statuses.Memory text is reads h = absurd h
+right_by words left left' commands.Explore bytes statuses.Limit text is reads h = (is, bytes, reads, h)
+right_by words left left' commands.Replay bytes statuses.Refused text is reads h = ((commands.Replay, is), inr (bytes, reads, h))
+right_by words left left' commands.Replay bytes other text is reads h = absurd h
+
+-- a file that is refused
+pub right_refused : (words : List (List ℕ)) (left left' : Option (List ℕ)) (command : Command) (bytes text : List ℕ) → IsCommandOf command words → Reads left left' bytes → IsRefusal (file_of bytes) text → IsRight words left left' statuses.Refused text
+right_refused words left left' command bytes text is reads h = ((command, is), inr (bytes, reads, h))
 
 -- an answer on a file is no read fault
-pub answer_is_no_fault : {P : Type 0} (bytes : List ℕ) (status : Status) (text : List ℕ) → status ≡ statuses.ReadFault → Answers bytes status text → P
-answer_is_no_fault bytes status text is h = absurd (subst (λ (s : Status). Answers bytes s text) is h)
+pub answer_is_no_fault : {P : Type 0} (command : Command) (bytes : List ℕ) (status : Status) (text : List ℕ) → status ≡ statuses.ReadFault → Answers command bytes status text → P
+answer_is_no_fault {P} command bytes status text is h = go command (subst (λ (s : Status). Answers command bytes s text) is h)
+  where
+    go : (command : Command) → Answers command bytes statuses.ReadFault text → P
+    go commands.Explore h = absurd h
+    go commands.Replay h = absurd h

@@ -8,8 +8,10 @@ use Rattle.kn_report.specs.declared.status.Status.TheVariants as statuses
 use Rattle.kn_plan.specs.Files.{File}
 use Rattle.kn_netfile.specs.Faults.{Fault}
 use Rattle.kn_netfile.specs.Reading.{file_of}
-use Rattle.netsym.specs.Refusals.{IsAccepted, IsRefusal, RunsNow}
-use Rattle.netsym.specs.Runs.{IsCommand, IsRight, PassesLimit, Reads, Runs, limit}
+use Rattle.netsym.specs.Refusals.{IsAccepted, IsRefusal}
+use Rattle.netsym.specs.declared.command.Command.{Command}
+use Rattle.netsym.specs.declared.command.Command.TheVariants as commands
+use Rattle.netsym.specs.Runs.{IsCommand, IsCommandOf, IsRight, PassesLimit, Reads, Runs, Answers, limit}
 use Rattle.netsym.specs.Exact.{EndsAs, IsUsage, IsHindered, IsPrinted, IsDescribed, IsTooLarge, IsExact}
 
 -- bytes are a file of one network alone
@@ -21,7 +23,7 @@ one_network bytes net other a b =
 
 -- what is accepted is not refused
 not_both : (bytes : List ℕ) (net : Network) (text : List ℕ) → IsAccepted bytes net → IsRefusal (file_of bytes) text → ⊥
-not_both bytes net text a r = (subst (λ (f : Result File Fault). IsRefusal f text) a.given r).0 (subst RunsNow (sym a.network) a.runs)
+not_both bytes net text a r = subst (λ (f : Result File Fault). IsRefusal f text) a.given r
 
 -- what was read to the end of a source that holds these bytes is these bytes
 read_is : (left' : Option (List ℕ)) (bytes read : List ℕ) → Consumes (Some bytes) left' read → IsAtEnd left' → read ≡ bytes
@@ -44,25 +46,37 @@ usage_exactly words left left' faults faults' taken taken' status run = record {
   where
     only_usage : (v : Status) (text : List ℕ) → (IsCommand words → ⊥) → IsRight words left left' v text → EndsAs v statuses.Usage
     only_usage statuses.Usage text none r = inl refl
-    only_usage statuses.Clean text none r = absurd (none r.0)
-    only_usage statuses.Found text none r = absurd (none r.0)
-    only_usage statuses.Open text none r = absurd (none r.0)
+    only_usage statuses.Clean text none r = absurd (none (r.0, r.1))
+    only_usage statuses.Found text none r = absurd (none (r.0, r.1))
+    only_usage statuses.Open text none r = absurd (none (commands.Explore, r.0))
     only_usage statuses.Refused text none r = absurd (none r.0)
     only_usage statuses.ReadFault text none r = absurd (none r.0)
     only_usage statuses.WriteFault text none r = absurd r
     only_usage statuses.Memory text none r = absurd (none r.0)
-    only_usage statuses.Limit text none r = absurd (none r.0)
+    only_usage statuses.Limit text none r = absurd (none (commands.Explore, r.0))
 
-module _ (words : List (List ℕ)) (left left' : Option (List ℕ)) (faults faults' : ℕ) (taken taken' : Option (List ℕ)) (status : Status) (run : Runs words left left' faults faults' taken taken' status) (bytes : List ℕ) (holds : left ≡ Some bytes) (command : IsCommand words) where
+module _ (words : List (List ℕ)) (left left' : Option (List ℕ)) (faults faults' : ℕ) (taken taken' : Option (List ℕ)) (status : Status) (run : Runs words left left' faults faults' taken taken' status) (command : Command) (is : IsCommandOf command words) (bytes : List ℕ) (holds : left ≡ Some bytes) where
   described_by : (read : List ℕ) → Reads left left' read → (net : Network) → IsAccepted read net → IsDescribed bytes
   described_by read reads net accepted =
       let same = read_is left' bytes read (subst (λ (l : Option (List ℕ)). Consumes l left' read) holds reads.all) reads.end in
       (subst (λ (l : List ℕ). length l ≤ limit) same reads.fits, net, subst (λ (l : List ℕ). IsAccepted l net) same accepted)
 
-  -- a printed report is on what the bytes describe
+  -- the network of a file that was run on its inputs
+  described_run : (read : List ℕ) → Reads left left' read → (file : File) → file_of read ≡ Ok file → IsDescribed bytes
+  described_run read reads file given = described_by read reads file.network (record { file = file; given = given; network = refl })
+
+  clean_described : (c : Command) (read text : List ℕ) → Reads left left' read → Answers c read statuses.Clean text → IsDescribed bytes
+  clean_described commands.Explore read text reads h = described_by read reads h.1.net h.1.accepted
+  clean_described commands.Replay read text reads h = described_run read reads h.1.file h.1.given
+
+  found_described : (c : Command) (read text : List ℕ) → Reads left left' read → Answers c read statuses.Found text → IsDescribed bytes
+  found_described commands.Explore read text reads h = described_by read reads h.1.net h.1.accepted
+  found_described commands.Replay read text reads h = described_run read reads h.1.file h.1.given
+
+  -- a report or a run that is printed is on what the bytes describe
   verdict_printed : (v : Status) (text : List ℕ) → IsRight words left left' v text → IsPrinted v → IsDescribed bytes
-  verdict_printed statuses.Clean text r p = described_by r.1 r.2 r.3.1.net r.3.1.accepted
-  verdict_printed statuses.Found text r p = described_by r.1 r.2 r.3.1.net r.3.1.accepted
+  verdict_printed statuses.Clean text r p = clean_described r.0 r.2 text r.3 r.4
+  verdict_printed statuses.Found text r p = found_described r.0 r.2 text r.3 r.4
   verdict_printed statuses.Open text r p = described_by r.1 r.2 r.3.1.net r.3.1.accepted
   verdict_printed statuses.Usage text r p = absurd p
   verdict_printed statuses.Refused text r p = absurd p
@@ -72,8 +86,8 @@ module _ (words : List (List ℕ)) (left left' : Option (List ℕ)) (faults faul
   verdict_printed statuses.Limit text r p = absurd p
 
   -- a limit is passed by what the bytes describe
-  verdict_limited : (text : List ℕ) → IsRight words left left' statuses.Limit text → IsTooLarge bytes
-  verdict_limited text r =
+  verdict_large : (text : List ℕ) → IsRight words left left' statuses.Limit text → IsTooLarge bytes
+  verdict_large text r =
       let same = read_is left' bytes r.1 (subst (λ (l : Option (List ℕ)). Consumes l left' r.1) holds r.2.all) r.2.end in
       record {
         fits = subst (λ (l : List ℕ). length l ≤ limit) same r.2.fits;
@@ -81,6 +95,14 @@ module _ (words : List (List ℕ)) (left left' : Option (List ℕ)) (faults faul
         accepted = subst (λ (l : List ℕ). IsAccepted l r.3.0) same r.3.1;
         passes = r.3.2.passes;
       }
+
+  -- the words are those of one command
+  explores : (c : Command) → IsCommandOf c words → IsCommandOf commands.Explore words → c ≡ commands.Explore
+  explores commands.Explore e f = refl
+  explores commands.Replay e f = absurd (let wrong = sym e ∙ f in cc)
+
+  verdict_limited : (text : List ℕ) → IsRight words left left' statuses.Limit text → (command ≡ commands.Explore) × IsTooLarge bytes
+  verdict_limited text r = (explores command is r.0, verdict_large text r)
 
   -- refused bytes describe nothing
   verdict_refused : (text : List ℕ) → IsRight words left left' statuses.Refused text → IsDescribed bytes → ⊥
@@ -100,7 +122,7 @@ module _ (words : List (List ℕ)) (left left' : Option (List ℕ)) (faults faul
   verdict_prints statuses.Clean text r d = inl tt
   verdict_prints statuses.Found text r d = inl tt
   verdict_prints statuses.Open text r d = inl tt
-  verdict_prints statuses.Usage text r d = absurd (r.0 command)
+  verdict_prints statuses.Usage text r d = absurd (r.0 (command, is))
   verdict_prints statuses.Refused text r d = absurd (verdict_refused text r d)
   verdict_prints statuses.ReadFault text r d = inr (inr tt)
   verdict_prints statuses.WriteFault text r d = absurd r
@@ -111,36 +133,37 @@ module _ (words : List (List ℕ)) (left left' : Option (List ℕ)) (faults faul
   verdict_refuses statuses.Clean text r none = absurd (none (verdict_printed statuses.Clean text r tt))
   verdict_refuses statuses.Found text r none = absurd (none (verdict_printed statuses.Found text r tt))
   verdict_refuses statuses.Open text r none = absurd (none (verdict_printed statuses.Open text r tt))
-  verdict_refuses statuses.Usage text r none = absurd (r.0 command)
+  verdict_refuses statuses.Usage text r none = absurd (r.0 (command, is))
   verdict_refuses statuses.Refused text r none = inl refl
   verdict_refuses statuses.ReadFault text r none = inr tt
   verdict_refuses statuses.WriteFault text r none = absurd r
   verdict_refuses statuses.Memory text r none = inr tt
-  verdict_refuses statuses.Limit text r none = absurd (none (let large = verdict_limited text r in (large.fits, large.net, large.accepted)))
+  verdict_refuses statuses.Limit text r none = absurd (none (let large = verdict_large text r in (large.fits, large.net, large.accepted)))
 
   -- a limit is answered only where one is passed
-  limit_answered : status ≡ statuses.Limit → IsTooLarge bytes
-  limit_answered is = elim run.written [
-    | inl h ↦ verdict_limited run.text (subst (λ (v : Status). IsRight words left left' v run.text) (sym h.0 ∙ is) run.right)
-    | inr h ↦ absurd (let wrong : statuses.WriteFault ≡ statuses.Limit = sym h.0 ∙ is in cc)
+  limit_answered : status ≡ statuses.Limit → (command ≡ commands.Explore) × IsTooLarge bytes
+  limit_answered ends = elim run.written [
+    | inl h ↦ verdict_limited run.text (subst (λ (v : Status). IsRight words left left' v run.text) (sym h.0 ∙ ends) run.right)
+    | inr h ↦ absurd (let wrong : statuses.WriteFault ≡ statuses.Limit = sym h.0 ∙ ends in cc)
   ]
 
   report_or_limit : IsDescribed bytes → IsPrinted status ⊎ ((status ≡ statuses.Limit) ⊎ IsHindered status)
   report_or_limit d = status_is (λ s. IsPrinted s ⊎ ((s ≡ statuses.Limit) ⊎ IsHindered s)) words left left' faults faults' taken taken' status run (verdict_prints run.verdict run.text run.right d) (inr (inr tt))
 
   -- where the network that is described passes no limit, none is answered
-  within : (net : Network) → IsAccepted bytes net → (PassesLimit net → ⊥) → IsPrinted status ⊎ ((status ≡ statuses.Limit) ⊎ IsHindered status) → IsPrinted status ⊎ IsHindered status
+  within : (net : Network) → IsAccepted bytes net → (command ≡ commands.Explore → PassesLimit net → ⊥) → IsPrinted status ⊎ ((status ≡ statuses.Limit) ⊎ IsHindered status) → IsPrinted status ⊎ IsHindered status
   within net accepted none (inl p) = inl p
   within net accepted none (inr (inr h)) = inr h
-  within net accepted none (inr (inl is)) =
-      let large = limit_answered is in
-      absurd (none (subst PassesLimit (one_network bytes large.net net large.accepted accepted) large.passes))
+  within net accepted none (inr (inl ends)) =
+      let limited = limit_answered ends in
+      let large = limited.1 in
+      absurd (none limited.0 (subst PassesLimit (one_network bytes large.net net large.accepted accepted) large.passes))
 
-  pub exact_by : IsExact bytes status
+  pub exact_by : IsExact command bytes status
   exact_by = record {
-    refused = λ is. elim run.written [
-      | inl h ↦ verdict_refused run.text (subst (λ (v : Status). IsRight words left left' v run.text) (sym h.0 ∙ is) run.right)
-      | inr h ↦ absurd (let wrong : statuses.WriteFault ≡ statuses.Refused = sym h.0 ∙ is in cc)
+    refused = λ ends. elim run.written [
+      | inl h ↦ verdict_refused run.text (subst (λ (v : Status). IsRight words left left' v run.text) (sym h.0 ∙ ends) run.right)
+      | inr h ↦ absurd (let wrong : statuses.WriteFault ≡ statuses.Refused = sym h.0 ∙ ends in cc)
     ];
     printed = λ p. elim run.written [
       | inl h ↦ verdict_printed run.verdict run.text run.right (subst IsPrinted h.0 p)

@@ -2,35 +2,25 @@
 use Rattle.std.specs.Prelude.{◌≡◌, ℕ, List, ◌++◌, codes, decimal, Result, Ok, Err}
 use Rattle.kn_plan.specs.Nets.{Network}
 use Rattle.kn_plan.specs.Files.{File}
-use Rattle.kn_netfile.specs.Faults.{Fault, everywhere}
+use Rattle.kn_netfile.specs.Faults.{Fault}
 use Rattle.kn_netfile.specs.Reading.{file_of}
-use Rattle.kn_cob.specs.Runs.{IsBare}
 use Rattle.netsym.specs.declared.answer.Unanswered.{Unanswered}
 use Rattle.netsym.specs.declared.answer.Unanswered.TheVariants as unanswered
 
--- It is explored now: its nodes lose and double no packet, and do not reboot.
-abbrev pub RunsNow : Network → Type 0
-RunsNow = IsBare
-
--- the bytes are a file of this network, which runs now
+-- the bytes are a file of this network
 pub record IsAccepted (bytes : List ℕ) (net : Network) : Type 0 where
   pub file : File
   pub given : file_of bytes ≡ Ok file
   pub network : file.network ≡ net
-  pub runs : RunsNow net
 
 -- a refusal by its number and place
 abbrev pub refusal_line : ℕ → List ℕ → List ℕ
 refusal_line number place = codes "netsym: refused F" ++ (decimal number ++ (codes " " ++ (place ++ codes "\n")))
 
--- a file without a fault that does not run now
-abbrev pub not_yet : ℕ
-not_yet = 0
-
--- The text refuses a file: it names the fault, or there is none, and the network does not run now.
+-- The text refuses a file: it names the fault.
 abbrev pub IsRefusal : Result File Fault → List ℕ → Type 0
 IsRefusal (Err fault) text = text ≡ refusal_line fault.number fault.place
-IsRefusal (Ok file) text = (RunsNow file.network → ⊥) × (text ≡ refusal_line not_yet everywhere)
+IsRefusal (Ok file) text = ⊥
 
 -- the refusal's line has this number and place; nothing is said where memory ran out
 abbrev pub Tells : ℕ → List ℕ → Unanswered → Type 0

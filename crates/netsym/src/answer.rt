@@ -1,18 +1,20 @@
 //! What the program answers to a network file.
 
-ghost use Rattle.std.specs.Prelude.{◌≡◌, ◌≤◌, ◌<◌, ℕ, length, IfOk, IfErr, string_bytes};
+ghost use Rattle.std.specs.Prelude.{◌≡◌, ◌≤◌, ◌<◌, ℕ, length, Ok, IfOk, IfErr, string_bytes};
 ghost use Rattle.kn_model.specs.Reports.{Cob, Gives};
 ghost use Rattle.kn_report.specs.Statuses.{status_in};
 ghost use Rattle.kn_report.specs.Texts.{report_text};
-ghost use Rattle.kn_cob.specs.Runs.{IsBare, AreScenarios};
+ghost use Rattle.kn_cob.specs.Runs.{AreScenarios};
+ghost use Rattle.kn_netfile.specs.Reading.{file_of};
 ghost use Rattle.kn_cob.specs.Ticks.{limit_of, IsPassed};
-ghost use Rattle.netsym.specs.Refusals.{IsAccepted, SaysWhy, Tells, refusal_line};
-ghost use Rattle.netsym.specs.Runs.{Answers, IsEither, limit_line, limit_name};
+ghost use Rattle.netsym.specs.Refusals.{SaysWhy, Tells, refusal_line};
+ghost use Rattle.netsym.specs.Runs.{Answers, IsEither, IsReplayed, limit_line, limit_name};
 
-use crate::runnable::runs_now;
+use crate::command::Command;
 use kn_cob::{CobRun, Stop, explore_cob, report_of};
 use kn_netfile::{FileFault, read};
 use kn_plan::Net;
+use kn_replay::{failed_count, replay, text as run_text};
 use kn_report::{Report, Status, status_of, text};
 use kn_step::{LimitAt, LimitKind, Steps};
 use std::alloc::{AllocError, Global};
@@ -20,10 +22,7 @@ use std::marker::Brand;
 use std::sync::ledger::{Blank, Ledger};
 use thiserror::Error;
 
-/// The number of the refusal of a file that has no fault, and whose network does not run now.
-const NOT_YET: u8 = 0;
-
-/// Why the network of a file is not explored.
+/// Why there is no answer on the network of a file.
 #[derive(Debug, Drop, Error)]
 pub enum Unanswered {
     /// The file is refused, and this line says why.
@@ -39,7 +38,6 @@ fn explored<L: Ledger>(net: &Net, blank: Blank) -> Result<CobRun, Stop>
     requires name { blank.name ≡ L.name }
     requires parts { blank.parts ≡ L.parts }
     requires some { 0 < L.parts }
-    requires bare { IsBare net.now.network }
     ensures scenarios { IfOk result (λ r. AreScenarios net.now.network r) }
     ensures passed { IfErr result (IsPassed net.now.network) }
 {
@@ -49,7 +47,6 @@ fn explored<L: Ledger>(net: &Net, blank: Blank) -> Result<CobRun, Stop>
 
 /// The report of a network: what copying it whole at every branch gives at its last tick.
 pub fn report_of_net(alloc: Global, net: &Net) -> Result<Report, Stop>
-    requires { IsBare net.now.network }
     ensures given { IfOk result (λ r. Gives r net.now.network) }
     ensures mapping { IfOk result (λ r. r.mapping ≡ Cob) }
     ensures within { IfOk result (λ r. length r.dstates ≤ net.now.network.limits.dstates) }
@@ -101,9 +98,8 @@ fn printed(report: &Report) -> Result<Told, AllocError>
     })
 }
 
-/// The answer on a network.
+/// The answer on a network that is explored.
 fn reported(alloc: Global, net: &Net) -> Result<Told, AllocError>
-    requires { IsBare net.now.network }
     ensures { IfOk result (λ t. IsEither net.now.network t.status (string_bytes t.text)) }
 {
     match report_of_net(alloc, net) {
@@ -139,32 +135,45 @@ fn refusal(alloc: Global, number: u8, place: &[u8]) -> Unanswered
     }
 }
 
-/// The network of a file, where it runs now.
-///
-/// - `Refused`: the file has a fault, whose number and place the line gives, or its network does not run now.
-/// - `Memory`: want of memory.
-pub fn accepted(alloc: Global, bytes: &[u8]) -> Result<Net, Unanswered>
-    ensures accepted { IfOk result (λ net. IsAccepted bytes.now net.network) }
-    ensures refused { IfErr result (SaysWhy bytes.now) }
+/// The answer on a network that is replayed on the inputs of its file.
+fn replayed(net: &Net) -> Result<Told, AllocError>
+    ensures { IfOk result (λ t. IsReplayed net.now t.status (string_bytes t.text)) }
 {
-    let net = match read(alloc, bytes) {
-        Ok(net) => net,
-        Err(FileFault::Refused { number, place }) => {
-            return Err(refusal(alloc, number, &place.bytes));
-        }
-        Err(FileFault::Memory(error)) => return Err(Unanswered::Memory(error)),
+    let run = replay(net, &net.inputs)?;
+    let status = if failed_count(&run) == 0 {
+        Status::Clean
+    } else {
+        Status::Found
     };
-    if !runs_now(&net) {
-        return Err(refusal(alloc, NOT_YET, b"-"));
-    }
-    Ok(net)
+    Ok(Told {
+        status,
+        text: run_text(net, &run)?,
+    })
 }
 
-/// The status and the text for the bytes of a network file whose network is explored.
-pub fn answer(alloc: Global, bytes: &[u8]) -> Result<Told, Unanswered>
-    ensures told { IfOk result (λ t. Answers bytes.now t.status (string_bytes t.text)) }
+/// The network of a file, with its inputs.
+///
+/// - `Refused`: the file has a fault, whose number and place the line gives.
+/// - `Memory`: want of memory.
+pub fn accepted(alloc: Global, bytes: &[u8]) -> Result<Net, Unanswered>
+    ensures accepted { IfOk result (λ net. file_of bytes.now ≡ Ok net) }
+    ensures refused { IfErr result (SaysWhy bytes.now) }
+{
+    match read(alloc, bytes) {
+        Ok(net) => Ok(net),
+        Err(FileFault::Refused { number, place }) => Err(refusal(alloc, number, &place.bytes)),
+        Err(FileFault::Memory(error)) => Err(Unanswered::Memory(error)),
+    }
+}
+
+/// The status and the text of a command on the bytes of a network file.
+pub fn answer(alloc: Global, command: Command, bytes: &[u8]) -> Result<Told, Unanswered>
+    ensures told { IfOk result (λ t. Answers command bytes.now t.status (string_bytes t.text)) }
     ensures refused { IfErr result (SaysWhy bytes.now) }
 {
     let net = accepted(alloc, bytes)?;
-    reported(alloc, &net).map_err(Unanswered::Memory)
+    match command {
+        Command::Explore => reported(alloc, &net).map_err(Unanswered::Memory),
+        Command::Replay => replayed(&net).map_err(Unanswered::Memory),
+    }
 }

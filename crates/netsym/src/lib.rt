@@ -2,13 +2,13 @@
 #![tactic(auto)]
 
 mod answer;
+mod command;
 mod output;
-mod runnable;
 mod top;
 
+pub use command::{Command, command_of, words_ok};
 pub use kn_report::Status;
-pub use runnable::runs_now;
-pub use top::{run_alone, words_ok};
+pub use top::run_alone;
 
 #[cfg(test)]
 mod hostile_tests;

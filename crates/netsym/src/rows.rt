@@ -18,8 +18,136 @@ pub struct Row {
 /// Nothing in the file is written anew.
 const AS_IT_STANDS: (&str, &str) = ("ticks", "ticks");
 
-/// A file without a fault, whose network does not run now.
-const NOT_YET: &str = "netsym: refused F0 -\n";
+/// A packet to a node that may lose one and be given one twice.
+const LOST_OR_TWICE: &str = "version = 1
+ticks = 3
+[[program]]
+name = \"five\"
+asm = '''
+boot: const r0, 5
+      send 0, r0, 1
+      ret
+'''
+[[program]]
+name = \"idle\"
+asm = '''
+recv: ret
+'''
+[[node]]
+program = \"five\"
+[[node]]
+program = \"idle\"
+loss = 1
+duplicate = 1
+[[link]]
+from = 0
+to = 1
+delay = 1
+";
+
+/// A node that may reboot in tick 1, before its timer halts it; then the packet of tick 2 finds it running.
+const REBOOT: &str = "version = 1
+ticks = 3
+[[program]]
+name = \"ping\"
+asm = '''
+boot: send 0, r0, 0
+      ret
+'''
+[[program]]
+name = \"fragile\"
+asm = '''
+boot:   timer 0, 1
+        ret
+recv:   const r0, 0
+        assert r0
+        ret
+timer0: halt
+'''
+[[node]]
+program = \"ping\"
+[[node]]
+program = \"fragile\"
+reboot = [1]
+[[link]]
+from = 0
+to = 1
+delay = 2
+";
+
+/// A tree of six nodes, each of which may lose a packet: two leaves send to relays, these and the third leaf to the sink, which
+/// fails where none of the three readings comes.
+pub const TREE: &str = "version = 1
+ticks = 12
+[[program]]
+name = \"sink\"
+asm = '''
+boot:   timer 0, 10
+        ret
+recv:   ld r1, 0
+        const r2, 1
+        add r1, r1, r2
+        st 0, r1
+        ret
+timer0: ld r1, 0
+        assert r1
+        ret
+'''
+[[program]]
+name = \"relay\"
+asm = '''
+recv:   recvw r0, 0
+        send 0, r0, 1
+        ret
+'''
+[[program]]
+name = \"leaf\"
+asm = '''
+boot:   timer 0, 1
+        ret
+timer0: input r0, 8
+        send 0, r0, 1
+        ret
+'''
+[[node]]
+program = \"sink\"
+loss = 1
+[[node]]
+program = \"relay\"
+loss = 1
+[[node]]
+program = \"relay\"
+loss = 1
+[[node]]
+program = \"leaf\"
+loss = 1
+[[node]]
+program = \"leaf\"
+loss = 1
+[[node]]
+program = \"leaf\"
+loss = 1
+[[link]]
+from = 1
+to = 0
+delay = 1
+[[link]]
+from = 2
+to = 0
+delay = 1
+[[link]]
+from = 3
+to = 1
+delay = 1
+[[link]]
+from = 4
+to = 2
+delay = 1
+[[link]]
+from = 5
+to = 0
+delay = 1
+";
 
 /// Two branches on two inputs.
 const TWO_INPUTS: &str = "version = 1
@@ -1605,7 +1733,7 @@ pub const ROWS: [Row; 44] = [
 ];
 
 /// Words of more bits than one, bounds, failures that no inputs reach, and what is refused.
-pub const ROWS_OF_WORDS_AND_REFUSALS: [Row; 13] = [
+pub const ROWS_OF_WORDS_AND_REFUSALS: [Row; 16] = [
     Row {
         name: "both sides of two branches",
         file: TWO_INPUTS,
@@ -1700,31 +1828,86 @@ end states 2 dstates 1 reached 0 open 0
 ",
     },
     Row {
-        name: "a packet may be lost",
+        name: "a packet may be lost, and none is sent",
         file: HALVES,
         change: ("program = \"half\"\n", "program = \"half\"\nloss = 1\n"),
-        status: Status::Refused,
-        text: NOT_YET,
+        status: Status::Clean,
+        text: HALVES_REPORT,
     },
     Row {
-        name: "a packet may be doubled",
+        name: "a packet may be doubled, and none is sent",
         file: HALVES,
         change: (
             "program = \"half\"\n",
             "program = \"half\"\nduplicate = 1\n",
         ),
-        status: Status::Refused,
-        text: NOT_YET,
+        status: Status::Clean,
+        text: HALVES_REPORT,
     },
     Row {
-        name: "a node may reboot",
-        file: HALVES,
-        change: ("program = \"half\"\n", "program = \"half\"\nreboot = [0]\n"),
-        status: Status::Refused,
-        text: NOT_YET,
+        name: "a packet may be lost, or doubled, and then its copy lost",
+        file: LOST_OR_TWICE,
+        change: AS_IT_STANDS,
+        status: Status::Clean,
+        text: "report 1 mapping cob ticks 3 nodes 2
+state 0 node 0 trace - outcome running inputs -
+state 1 node 1 trace 00 outcome running inputs -
+state 2 node 0 trace - outcome running inputs -
+state 3 node 1 trace 010 outcome running inputs 1.1=1
+state 4 node 0 trace - outcome running inputs -
+state 5 node 1 trace 011 outcome running inputs 1.1=1 1.2=1
+state 6 node 0 trace - outcome running inputs -
+state 7 node 1 trace 1 outcome running inputs 1.0=1
+dstate 0 columns 0 1
+dstate 1 columns 2 3
+dstate 2 columns 4 5
+dstate 3 columns 6 7
+end states 8 dstates 4 reached 0 open 0
+",
     },
     Row {
-        name: "a fault comes before what does not run",
+        name: "a reboot before a timer, and a packet that waits",
+        file: REBOOT,
+        change: AS_IT_STANDS,
+        status: Status::Found,
+        text: "report 1 mapping cob ticks 3 nodes 2
+state 0 node 0 trace - outcome running inputs -
+state 1 node 1 trace 0 outcome halted inputs -
+state 2 node 0 trace - outcome running inputs -
+state 3 node 1 trace 11 outcome assert@3@2 inputs 1.0=1
+dstate 0 columns 0 1
+dstate 1 columns 2 3
+failure 3 reached dstate 1 pick 2 3 inputs 1.0=1
+end states 4 dstates 2 reached 1 open 0
+",
+    },
+    Row {
+        name: "no reboot of a node that halted",
+        file: REBOOT,
+        change: ("boot:   timer 0, 1", "boot:   halt"),
+        status: Status::Clean,
+        text: "report 1 mapping cob ticks 3 nodes 2
+state 0 node 0 trace - outcome running inputs -
+state 1 node 1 trace - outcome halted inputs -
+dstate 0 columns 0 1
+end states 2 dstates 1 reached 0 open 0
+",
+    },
+    Row {
+        name: "no reboot of a node that failed",
+        file: REBOOT,
+        change: ("boot:   timer 0, 1", "boot:   assert r0"),
+        status: Status::Found,
+        text: "report 1 mapping cob ticks 3 nodes 2
+state 0 node 0 trace - outcome running inputs -
+state 1 node 1 trace 1 outcome assert@0@0 inputs -
+dstate 0 columns 0 1
+failure 1 reached dstate 0 pick 0 1 inputs -
+end states 2 dstates 1 reached 1 open 0
+",
+    },
+    Row {
+        name: "too many losses",
         file: HALVES,
         change: ("program = \"half\"\n", "program = \"half\"\nloss = 16\n"),
         status: Status::Refused,
@@ -1743,5 +1926,109 @@ end states 2 dstates 1 reached 0 open 0
         change: ("ticks = 2\n", "colour = 1\nticks = 2\n"),
         status: Status::Refused,
         text: "netsym: refused F3 top\n",
+    },
+];
+
+/// Files with inputs, which are replayed.
+pub const REPLAYS: [Row; 6] = [
+    Row {
+        name: "the failure after a reboot",
+        file: REBOOT,
+        change: (
+            "delay = 2\n",
+            "delay = 2\n[[input]]\nnode = 1\nindex = 0\nvalue = 1\n",
+        ),
+        status: Status::Found,
+        text: "replay 1 ticks 3 nodes 2
+tick 0 node 0 event boot bits -
+tick 0 node 1 event boot bits -
+tick 1 node 1 event reboot bits 1
+tick 2 node 1 event packet 0.0.0 bits 1
+node 0 trace - outcome running
+node 1 trace 11 outcome assert@3@2
+end failed 1
+",
+    },
+    Row {
+        name: "no reboot where the input is not given",
+        file: REBOOT,
+        change: AS_IT_STANDS,
+        status: Status::Clean,
+        text: "replay 1 ticks 3 nodes 2
+tick 0 node 0 event boot bits -
+tick 0 node 1 event boot bits -
+tick 1 node 1 event reboot bits 0
+tick 1 node 1 event timer 0 bits -
+node 0 trace - outcome running
+node 1 trace 0 outcome halted
+end failed 0
+",
+    },
+    Row {
+        name: "a packet that is doubled, and its copy lost",
+        file: LOST_OR_TWICE,
+        change: (
+            "delay = 1\n",
+            "delay = 1\n[[input]]\nnode = 1\nindex = 1\nvalue = 1\n[[input]]\nnode = 1\nindex = 2\nvalue = 1\n",
+        ),
+        status: Status::Clean,
+        text: "replay 1 ticks 3 nodes 2
+tick 0 node 0 event boot bits -
+tick 0 node 1 event boot bits -
+tick 1 node 1 event packet 0.0.0 bits 01
+tick 2 node 1 event packet 0.0.1 bits 1
+node 0 trace - outcome running
+node 1 trace 011 outcome running
+end failed 0
+",
+    },
+    Row {
+        name: "three packets of a tree lost",
+        file: TREE,
+        change: (
+            "from = 5\nto = 0\ndelay = 1\n",
+            "from = 5\nto = 0\ndelay = 1\n[[input]]\nnode = 0\nindex = 0\nvalue = 1\n[[input]]\nnode = 1\nindex = 0\nvalue = 1\n[[input]]\nnode = 2\nindex = 0\nvalue = 1\n",
+        ),
+        status: Status::Found,
+        text: "replay 1 ticks 12 nodes 6
+tick 0 node 0 event boot bits -
+tick 0 node 1 event boot bits -
+tick 0 node 2 event boot bits -
+tick 0 node 3 event boot bits -
+tick 0 node 4 event boot bits -
+tick 0 node 5 event boot bits -
+tick 1 node 3 event timer 0 bits -
+tick 1 node 4 event timer 0 bits -
+tick 1 node 5 event timer 0 bits -
+tick 2 node 0 event packet 5.0.0 bits 1
+tick 2 node 1 event packet 3.0.0 bits 1
+tick 2 node 2 event packet 4.0.0 bits 1
+tick 10 node 0 event timer 0 bits 1
+node 0 trace 11 outcome assert@8@10
+node 1 trace 1 outcome running
+node 2 trace 1 outcome running
+node 3 trace - outcome running
+node 4 trace - outcome running
+node 5 trace - outcome running
+end failed 1
+",
+    },
+    Row {
+        name: "a loop that counts down",
+        file: COUNT,
+        change: AS_IT_STANDS,
+        status: Status::Clean,
+        text: "replay 1 ticks 1 nodes 1
+tick 0 node 0 event boot bits 00000000001
+node 0 trace 00000000001 outcome running
+end failed 0
+",
+    },
+    Row {
+        name: "a file that is refused",
+        file: REBOOT,
+        change: ("delay = 2", "delay = 0"),
+        status: Status::Refused,
+        text: "netsym: refused F10 link[0].delay\n",
     },
 ];

@@ -1,6 +1,8 @@
 //! The top call on worked files, over a source and a sink in memory.
 
-use crate::rows::{HALF_REPORT, HALVES, HALVES_REPORT, ROWS, ROWS_OF_WORDS_AND_REFUSALS, Row};
+use crate::rows::{
+    HALF_REPORT, HALVES, HALVES_REPORT, REPLAYS, ROWS, ROWS_OF_WORDS_AND_REFUSALS, Row, TREE,
+};
 use crate::top::run_alone;
 use kn_io::{MemSink, MemSource};
 use kn_report::Status;
@@ -33,7 +35,7 @@ fn call_on(
     writes: &[u64],
 ) -> Result<Ran, Fail> {
     let mut source = MemSource::new(file.to_vec(alloc)?, reads.to_vec(alloc)?);
-    let mut sink = MemSink::new(vec![in alloc; 0u8; 4096]?, writes.to_vec(alloc)?);
+    let mut sink = MemSink::new(vec![in alloc; 0u8; 16384]?, writes.to_vec(alloc)?);
     let status = run_alone(alloc, words, &mut source, &mut sink);
     Ok(Ran {
         status,
@@ -46,17 +48,18 @@ pub fn ends(alloc: Global, file: &[u8], status: Status, text: &str) -> Result<bo
     Ok(call_on(alloc, &COMMAND, file, &[], &[])?.is(status, text))
 }
 
-/// Whether the call on a worked file ends as it must.
-fn is_right(alloc: Global, row: &Row) -> Result<bool, Fail> {
+/// Whether the call of a command on a worked file ends as it must.
+fn is_right(alloc: Global, words: &[&str], row: &Row) -> Result<bool, Fail> {
     let (from, to) = row.change;
     let file = row.file.replace(alloc, from, to)?;
-    ends(alloc, file.as_bytes(), row.status, row.text)
+    let ran = call_on(alloc, words, file.as_bytes(), &[], &[])?;
+    Ok(ran.is(row.status, row.text))
 }
 
 #[test]
 fn worked_files(rt: HostRuntime) -> Result<(), Fail> {
     for row in &ROWS {
-        let right = is_right(rt.alloc(), row)?;
+        let right = is_right(rt.alloc(), &COMMAND, row)?;
         assert!(rt; right, "{}", row.name);
     }
     Ok(())
@@ -65,9 +68,27 @@ fn worked_files(rt: HostRuntime) -> Result<(), Fail> {
 #[test]
 fn worked_files_of_words_and_refusals(rt: HostRuntime) -> Result<(), Fail> {
     for row in &ROWS_OF_WORDS_AND_REFUSALS {
-        let right = is_right(rt.alloc(), row)?;
+        let right = is_right(rt.alloc(), &COMMAND, row)?;
         assert!(rt; right, "{}", row.name);
     }
+    Ok(())
+}
+
+#[test]
+fn replayed_files(rt: HostRuntime) -> Result<(), Fail> {
+    for row in &REPLAYS {
+        let right = is_right(rt.alloc(), &["replay"], row)?;
+        assert!(rt; right, "{}", row.name);
+    }
+    Ok(())
+}
+
+#[test]
+fn a_tree_that_may_lose_packets(rt: HostRuntime) -> Result<(), Fail> {
+    let ran = call_on(rt.alloc(), &COMMAND, TREE.as_bytes(), &[], &[])?;
+    assert_eq!(rt; ran.status, Status::Found);
+    let last = b"end states 72 dstates 12 reached 1 open 0\n";
+    assert!(rt; ran.text.ends_with(last));
     Ok(())
 }
 

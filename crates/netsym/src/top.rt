@@ -1,11 +1,13 @@
 //! The top call.
 
-ghost use Rattle.std.specs.Prelude.{◌≡◌, ◌↔◌, ◌≤◌, ℕ, List, Some, IsTrue, is_ok, if◌then◌else◌};
+ghost use Rattle.std.specs.Prelude.{◌≡◌, ◌≤◌, ℕ, List, Some, is_ok, if◌then◌else◌};
 ghost use Rattle.kn_io.specs.Causes.{Rose};
-ghost use Rattle.netsym.specs.Runs.{IsCommand, words_of, Runs};
+ghost use Rattle.netsym.specs.Runs.{IsCommand, IsCommandOf, words_of, Runs};
+ghost use Rattle.netsym.specs.declared.command.Command.{Command};
 ghost use Rattle.netsym.specs.Exact.{IsUsage, IsExact};
 
 use crate::answer::{Unanswered, answer};
+use crate::command::command_of;
 use crate::output::write_lines;
 use kn_io::{Failed, ReadStop, Sink, Source, read_all, write_all};
 use kn_report::Status;
@@ -13,13 +15,6 @@ use std::alloc::Global;
 
 /// The most bytes of a file.
 const LIMIT: usize = 1_048_576;
-
-/// Whether the words are a command line: exactly `explore --mapping cob`.
-pub fn words_ok(words: &[&str]) -> bool
-    ensures { IsTrue result ↔ IsCommand (words_of words.now) }
-{
-    words == ["explore", "--mapping", "cob"].as_slice()
-}
 
 /// The status after the text of a status was written, or could not be.
 fn ended(status: Status, written: Result<(), Failed>) -> Status
@@ -45,12 +40,12 @@ fn run_once<S: Source, K: Sink>(
     ensures read_fault { result ≡ Status.ReadFault → Rose (S.faults source.old) (S.faults source.new) }
     ensures write_fault { result ≡ Status.WriteFault → Rose (K.faults sink.old) (K.faults sink.new) }
 {
-    if !words_ok(words) {
+    let Some(command) = command_of(words) else {
         return ended(
             Status::Usage,
             write_all(sink, b"netsym: not a command line\n"),
         );
-    }
+    };
     let bytes = match read_all(alloc, source, LIMIT) {
         Ok(bytes) => bytes,
         Err(ReadStop::Failed) => {
@@ -63,7 +58,7 @@ fn run_once<S: Source, K: Sink>(
             return ended(Status::Memory, write_all(sink, b"netsym: out of memory\n"));
         }
     };
-    match answer(alloc, &bytes) {
+    match answer(alloc, command, &bytes) {
         Ok(told) => ended(told.status, write_lines(sink, told.text.as_bytes())),
         Err(Unanswered::Refused(line)) => ended(Status::Refused, write_all(sink, &line)),
         Err(Unanswered::Memory(_)) => {
@@ -72,10 +67,10 @@ fn run_once<S: Source, K: Sink>(
     }
 }
 
-/// Does all that the program does, and waits for nobody: for the words of the command it reads a network file to its end,
-/// explores the network by copying it whole at every branch, and writes the report line by line, or one line: the number
-/// and the place of the file's fault, or a limit that the network passes and the tick. The whole text is made before its
-/// first byte is written.
+/// Does all that the program does, and waits for nobody. For the words of a command it reads a network file to its end. It
+/// explores the network by copying it whole at every branch, and writes the report line by line, or replays it on the inputs
+/// of the file, and writes the run. Or it writes one line: the number and the place of the file's fault, or a limit that the
+/// network passes and the tick. The whole text is made before its first byte is written.
 pub fn run_alone<S: Source, K: Sink>(
     alloc: Global,
     words: &[&str],
@@ -85,7 +80,7 @@ pub fn run_alone<S: Source, K: Sink>(
     // Which status comes, with which text, and how the text went out.
     ensures runs { Runs (words_of words.now) (S.left source.old) (S.left source.new) (S.faults source.old) (S.faults source.new) (K.taken sink.old) (K.taken sink.new) result }
 
-    // Where the words are not the command, nothing is asked of the source.
+    // Where the words are those of no command, nothing is asked of the source.
     ensures unread { (IsCommand (words_of words.now) → ⊥) → source.new ≡ source.old }
 
     // A fault is answered only where the count of faults rose in this call.
@@ -95,9 +90,9 @@ pub fn run_alone<S: Source, K: Sink>(
     ensures write_fault { result ≡ Status.WriteFault → Rose (K.faults sink.old) (K.faults sink.new) }
 
     // When each status comes, for a source that tells its bytes: where the network that they describe passes no limit, its
-    // report is printed, but where a fault or want of memory comes between.
+    // report or its run is printed, but where a fault or want of memory comes between.
     ensures usage { IsUsage (words_of words.now) result }
-    ensures exact { (bytes : List ℕ) → S.left source.old ≡ Some bytes → IsCommand (words_of words.now) → IsExact bytes result }
+    ensures exact { (command : Command) (bytes : List ℕ) → IsCommandOf command (words_of words.now) → S.left source.old ≡ Some bytes → IsExact command bytes result }
 {
     run_once(alloc, words, source, sink)
 }

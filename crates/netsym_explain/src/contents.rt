@@ -99,16 +99,3 @@ fn links_text(alloc: Global, net: &Net) -> Result<String, AllocError> {
     }
     Ok(text)
 }
-
-/// What a network holds that does not run yet: lost or doubled packets, and reboots.
-pub fn gaps(alloc: Global, net: &Net) -> Result<String, AllocError> {
-    let mut text = String::new(alloc);
-    for (node, plan) in net.nodes.iter().enumerate() {
-        if 0 < plan.loss || 0 < plan.duplicate || !plan.reboot.is_empty() {
-            text.push_str(&format!(in alloc;
-                "    lost or doubled packets, or reboots, of node {node}\n"
-            )?)?;
-        }
-    }
-    Ok(text)
-}

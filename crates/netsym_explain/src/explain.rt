@@ -4,10 +4,9 @@ ghost use Rattle.std.specs.Prelude.{◌↔◌, IfOk, IsTrue};
 ghost use Rattle.netsym_explain.specs.Saying.{IsRun};
 
 use crate::complaint::complaint;
-use crate::contents::{contents, gaps};
+use crate::contents::contents;
 use kn_netfile::{FileFault, read};
 use kn_plan::{Name, Net};
-use netsym::runs_now;
 use std::alloc::{AllocError, Global};
 
 /// What is said of a file, and whether netsym accepts it.
@@ -17,16 +16,10 @@ pub struct Explained {
     pub text: String,
 }
 
-/// What a network holds, and before that what of it does not run yet.
-fn text_of_net(alloc: Global, net: &Net, accepted: bool) -> Result<String, AllocError> {
+/// What a network holds.
+fn text_of_net(alloc: Global, net: &Net) -> Result<String, AllocError> {
     let mut text = String::new(alloc);
-    if accepted {
-        text.push_str("The file is accepted.\n")?;
-    } else {
-        text.push_str("The file is refused: F0 -\n")?;
-        text.push_str("It is a network file, and some of it does not run yet:\n")?;
-        text.push_str(&gaps(alloc, net)?)?;
-    }
+    text.push_str("The file is accepted.\n")?;
     text.push_str(&contents(alloc, net)?)?;
     Ok(text)
 }
@@ -49,9 +42,11 @@ pub fn explain(alloc: Global, bytes: &[u8]) -> Result<Explained, AllocError>
 {
     match read(alloc, bytes) {
         Ok(net) => {
-            let accepted = runs_now(&net);
-            let text = text_of_net(alloc, &net, accepted)?;
-            Ok(Explained { accepted, text })
+            let text = text_of_net(alloc, &net)?;
+            Ok(Explained {
+                accepted: true,
+                text,
+            })
         }
         Err(FileFault::Refused { number, place }) => {
             let text = text_of_fault(alloc, bytes, number, &place)?;

@@ -39,7 +39,7 @@ fn accepted_files_tell_what_they_hold(rt: HostRuntime) -> Result<(), Fail> {
 
 #[test]
 fn refused_files_tell_what_is_wrong_and_where(rt: HostRuntime) -> Result<(), Fail> {
-    let rows: [([&str; 4], &str); 22] = [
+    let rows: [([&str; 4], &str); 21] = [
         (
             ["version = 1\nticks = \n", "", "", ""],
             "F2 -\nIt is no TOML document: TOML parse error at line 2, column 9\n",
@@ -158,15 +158,6 @@ fn refused_files_tell_what_is_wrong_and_where(rt: HostRuntime) -> Result<(), Fai
                 "[[input]]\nnode = 0\nindex = 0\nvalue = 65536\n",
             ],
             "F12 input[0].value\nAt value stands 65536. It must be a number from 0 to 65535.\n",
-        ),
-        (
-            [
-                HEAD,
-                "[[program]]\nname = \"p\"\nasm = \"boot: xor r0, r0, r1\\n ret\"\n",
-                NODE,
-                "loss = 1\n",
-            ],
-            "F0 -\nIt is a network file, and some of it does not run yet:\n    lost or doubled packets, or reboots, of node 0\nIt has 1 node, 1 program and 0 links, and runs for 1 tick.\nProgram p: 2 instructions, boot at 0\nNode 0: runs p, may lose 1 packet\n",
         ),
     ];
     for (parts, sentences) in rows {

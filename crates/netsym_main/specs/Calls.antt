@@ -5,7 +5,8 @@ use Rattle.kn_io.specs.Causes.{Rose}
 use Rattle.kn_report.specs.declared.status.Status.{Status}
 use Rattle.kn_report.specs.declared.status.Status.TheVariants as statuses
 use Rattle.kn_report.specs.Statuses.{code_of}
-use Rattle.netsym.specs.Runs.{IsCommand, Runs}
+use Rattle.netsym.specs.Runs.{IsCommandOf, Runs}
+use Rattle.netsym.specs.declared.command.Command.{Command}
 use Rattle.netsym.specs.Exact.{IsUsage, IsExact}
 
 -- where the system gives no words: the number of want of memory where that is the cause, and else 9, which is no status's
@@ -29,4 +30,4 @@ pub record IsCall (words : List (List ℕ)) (left left' : Option (List ℕ)) (fa
   pub read_fault : status ≡ statuses.ReadFault → Rose faults faults'
   pub write_fault : status ≡ statuses.WriteFault → Rose flaws flaws'
   pub usage : IsUsage words status
-  pub exact : (bytes : List ℕ) → left ≡ Some bytes → IsCommand words → IsExact bytes status
+  pub exact : (command : Command) (bytes : List ℕ) → IsCommandOf command words → left ≡ Some bytes → IsExact command bytes status
