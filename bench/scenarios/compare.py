@@ -4,7 +4,8 @@
     compare.py [--first K] [--small-budget] [--program PATH] [--keep FOLDER] [--timeout S] N SEED [COMMAND ..]
 
 N networks are made, from number K on. Where all conditions of a network are small there is one right report, and text and status are
-compared with it; where not, and with --small-budget, they are judged by the definitions. Without --program the command is
+compared with it; where not, and with --small-budget, they are judged by the definitions. Each failure that is printed as reached is
+replayed by the program, on its inputs: the run must have the traces and outcomes of its pick. Without --program the command is
 `./netsym explore --mapping cob` at the top of the repository; PATH is a built program. What differs is kept in FOLDER, which should be
 outside of the repository: the network, what was printed, and what is wrong with it. A network that takes too much work here is made
 and passed over. The exit status is 0 where nothing differs.
@@ -19,6 +20,7 @@ import sys
 import tempfile
 
 import random_networks
+import replays
 from judge import Complaint, Judge
 from terms import TooLong
 
@@ -80,7 +82,7 @@ def main():
     chosen = words.parse_args()
     program = chosen.program or os.path.join(TOP, "netsym")
     command = chosen.command or [program, "explore", "--mapping", "cob"]
-    count = differing = passed_over = 0
+    count = differing = passed_over = replayed = 0
     kinds = collections.Counter()
     for number in range(chosen.first, chosen.first + chosen.count):
         network = random_networks.network_text(random.Random("%d %d" % (chosen.seed, number)), chosen.small_budget)
@@ -88,6 +90,9 @@ def main():
             judge = Judge(network, WORK)
             text, status = run(command, network, chosen.timeout)
             wrong = compared(judge, text, status, chosen.small_budget)
+            if wrong is None and not chosen.command:
+                runs, wrong = replays.wrong_replays(program, network, text, chosen.timeout)
+                replayed += runs
         except TooLong:
             passed_over += 1
             continue
@@ -103,7 +108,7 @@ def main():
             print("DIFFERS: %s.toml, status %s: %s" % (name, status, wrong.split("\n")[0]), flush=True)
     for kind, times in sorted(kinds.items()):
         print("%6d %s" % (times, kind))
-    print("%d networks run, %d differ, %d passed over" % (count, differing, passed_over))
+    print("%d networks run, %d failures replayed, %d differ, %d passed over" % (count, replayed, differing, passed_over))
     return 1 if differing else 0
 
 

@@ -4,8 +4,7 @@
     explore.py < FILE
 
 Written from the rules in docs/FORMATS.md and docs/DEFINITIONS.md, and apart from the proved program. It is for networks with few
-bits of input: conditions are decided by trying the words of the inputs. A file whose nodes lose or double packets or boot again is
-answered as the program answers it now. Its other refusals are not worked out.
+bits of input: conditions are decided by trying the words of the inputs. Refusals are not worked out.
 """
 
 import sys
@@ -14,7 +13,6 @@ from networks import Event, Network, Node
 from programs import Refused
 from terms import Terms
 
-NOT_YET = "netsym: refused F0 -\n"
 FOUND, CLEAN, REFUSED, LIMIT, OPEN = 1, 0, 3, 7, 8
 
 # Where a limit is passed, so many events are still run in that tick, to see whether the other one is passed too.
@@ -37,7 +35,7 @@ class Exploration:
         self.network = network
         self.terms = Terms(work)
         self.numbers = range(len(network.programs))
-        self.scenarios = [[Node(n, self.terms.word(0)) for n in self.numbers]]
+        self.scenarios = [[Node(n, self.terms.word(0), network.failing[n]) for n in self.numbers]]
         self.passed = []
         self.events_left = None
 
@@ -182,8 +180,6 @@ def joint(terms, scenario):
 def explore(text):
     """What the program answers on the text of an accepted network file."""
     network = Network(text)
-    if network.fails:
-        return Answer(NOT_YET, REFUSED)
     return Exploration(network).answer()
 
 

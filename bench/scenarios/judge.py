@@ -86,7 +86,7 @@ class Judge:
 
     def followed(self, name):
         """The scenario of this name, at the last tick."""
-        scenario = [Node(n, self.terms.word(0)) for n in range(self.width)]
+        scenario = [Node(n, self.terms.word(0), self.network.failing[n]) for n in range(self.width)]
         for tick in range(self.network.ticks):
             for n, wanted in enumerate(name):
                 while scenario[n].is_due(tick):
@@ -123,7 +123,7 @@ class Judge:
     def may_pass(self, kind, tick):
         """Whether live conditions pass the limit in the tick."""
         limit = self.network.states if kind == "states" else self.network.dstates
-        waiting = [(0, 0, [Node(n, self.terms.word(0)) for n in range(self.width)])]
+        waiting = [(0, 0, [Node(n, self.terms.word(0), self.network.failing[n]) for n in range(self.width)])]
         ends = 0
         while waiting:
             at, n, scenario = waiting.pop()

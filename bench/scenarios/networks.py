@@ -1,7 +1,6 @@
 """Networks, as they stand in a network file, and the running of their nodes over terms.
 
 What is read here are files that are accepted; of any other one it is at most said that it is refused, and not why.
-Nodes that lose or double packets or boot again are read, and do not run.
 """
 
 import bisect
@@ -12,6 +11,7 @@ import programs
 from programs import Refused
 
 Link = namedtuple("Link", "sender to delay")
+Failing = namedtuple("Failing", "losses duplications reboots")
 Packet = namedtuple("Packet", "arrival sender number copy to payload guard")
 
 MOST_MADE = 65535
@@ -37,7 +37,7 @@ class Network:
             else:
                 by_name[entry["name"]] = programs.decode(bytes.fromhex(entry["code"]))
         self.programs = [by_name[entry["program"]] for entry in table["node"]]
-        self.fails = any(entry.get("loss") or entry.get("duplicate") or entry.get("reboot") for entry in table["node"])
+        self.failing = [Failing(entry.get("loss", 0), entry.get("duplicate", 0), tuple(entry.get("reboot", ()))) for entry in table["node"]]
         self.links = [[] for _ in self.programs]
         for entry in table.get("link", []):
             self.links[entry["from"]].append(Link(entry["from"], entry["to"], entry["delay"]))
@@ -46,8 +46,9 @@ class Network:
 class Node:
     """The state of a node. `fresh` are the packets that it was sent in this tick; they stand in its queue too."""
 
-    def __init__(self, number, zero):
-        """The node of this number at its start; `zero` is the term of the word 0."""
+    def __init__(self, number, zero, failing):
+        """The node of this number at its start; `zero` is the term of the word 0. `failing` says how it may fail."""
+        self.losses, self.duplications, self.reboots = failing
         self.number = number
         self.registers = [zero] * 16
         self.memory = [zero] * 64
@@ -73,7 +74,9 @@ class Node:
         """Whether an event of the node is due in this tick."""
         if self.outcome != "running":
             return False
-        return (tick == 0 and not self.booted) or any(packet.arrival == tick for packet in self.queue) or tick in self.timers
+        if (tick == 0 and not self.booted) or tick in self.reboots or tick in self.timers:
+            return True
+        return any(packet.arrival == tick for packet in self.queue)
 
     def post(self, packet):
         """Sends the node a packet."""
@@ -106,6 +109,12 @@ class Way:
         return Way(self.node.copy(), self.place, self.executed, list(self.sends))
 
 
+def ended(way):
+    """The way, which executes nothing."""
+    way.place = None
+    return way
+
+
 class Event:
     """The first due event of a node in a tick, and the running of it."""
 
@@ -116,10 +125,15 @@ class Event:
         self.tick = tick
         self.program = network.programs[node.number]
         self.packet = None
+        self.reboots = False
         self.begin = node.copy()
         arriving = [packet for packet in node.queue if packet.arrival == tick]
         if tick == 0 and not node.booted:
             self.begin.booted = True
+            self.entry = self.program.handlers[0]
+        elif tick in node.reboots:
+            self.reboots = True
+            self.begin.reboots = tuple(other for other in node.reboots if other != tick)
             self.entry = self.program.handlers[0]
         elif arriving:
             self.packet = arriving[0]
@@ -133,10 +147,7 @@ class Event:
     def paths(self, follows):
         """The ways through the event, bit 0 before bit 1: pairs of the node after it and the packets that were sent.
         After a decision a way goes on only if `follows` is true of the node."""
-        if self.entry is None:
-            yield self.begin, []
-            return
-        waiting = [Way(self.begin, self.entry, 0, [])]
+        waiting = list(reversed(self.beginnings(follows)))
         while waiting:
             way = waiting.pop()
             sides = None
@@ -149,6 +160,55 @@ class Event:
                 else:
                     sides = self.step(way)
             waiting.extend(side for side in reversed(sides) if follows(side.node))
+
+    def beginnings(self, follows):
+        """The ways behind the failure choices of the event, in order."""
+        way = Way(self.begin, self.entry, 0, [])
+        if self.reboots:
+            return [self.rebooted(side) if taken else ended(side) for taken, side in self.choose(way, follows)]
+        if self.packet is None:
+            return [way]
+        ways = []
+        for lost, side in self.choose(way, follows) if way.node.losses else [(False, way)]:
+            if lost:
+                side.node.losses -= 1
+                ways.append(ended(side))
+            else:
+                ways.extend(self.arrivals(side, follows))
+        return ways
+
+    def arrivals(self, way, follows):
+        """The ways on which the packet arrives, once or twice."""
+        if self.packet.copy or not way.node.duplications:
+            return [way]
+        ways = []
+        for doubled, side in self.choose(way, follows):
+            if doubled:
+                side.node.duplications -= 1
+                bisect.insort(side.node.queue, self.packet._replace(copy=1, arrival=self.tick + 1), key=key_of)
+            ways.append(side)
+        return ways
+
+    def rebooted(self, way):
+        """The way where registers, memory and timers are as at the start; the handler is boot."""
+        zero = self.terms.word(0)
+        way.node.registers, way.node.memory, way.node.timers = [zero] * 16, [zero] * 64, [None] * 8
+        return way
+
+    def choose(self, way, follows):
+        """The answers of a failure choice, no before yes, each with its way: it is yes where a fresh input of one bit is not 0.
+        There is no choice where the node has made all its inputs."""
+        if way.node.inputs == MOST_MADE:
+            return [(False, way)]
+        term = self.terms.input(way.node.number, way.node.inputs, 1)
+        way.node.inputs += 1
+        answers = []
+        for taken, side in ((False, way.copy()), (True, way)):
+            side.node.trace += "1" if taken else "0"
+            side.node.condition = self.terms.joined(side.node.condition, [(term, taken)])
+            if follows(side.node):
+                answers.append((taken, side))
+        return answers
 
     def fail(self, way, kind):
         """The way ends, and its node with it, at the instruction where it stands."""

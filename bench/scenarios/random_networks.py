@@ -262,8 +262,21 @@ def some_widths(chance, bits):
     return widths
 
 
+def failing_lines(chance):
+    """How a node may fail: some losses, duplications and reboots, or none."""
+    lines = []
+    if chance.random() < 0.5:
+        lines.append("loss = %d" % chance.choice([0, 1, 1, 1, 2, 3]))
+    if chance.random() < 0.4:
+        lines.append("duplicate = %d" % chance.choice([0, 1, 1, 2]))
+    if chance.random() < 0.4:
+        lines.append("reboot = %s" % sorted(chance.sample(range(5), chance.choice([0, 1, 1, 2]))))
+    return lines
+
+
 def network_text(chance, small_budget=False):
     """The text of a network file."""
+    failing = chance.random() < 0.7
     nodes = chance.choice([1, 1, 2, 2, 2, 3, 3, 4])
     count = chance.randint(1, nodes)
     of_node = [chance.randrange(count) for _ in range(nodes)]
@@ -306,8 +319,8 @@ def network_text(chance, small_budget=False):
             lines.append('code = "%s"' % programs.encode(programs.assemble(text)).hex())
     for number in of_node:
         lines += ["[[node]]", 'program = "p%d"' % number]
-        if chance.random() < 0.05:
-            lines += ["loss = 0", "duplicate = 0", "reboot = []"]
+        if failing:
+            lines += failing_lines(chance)
     for sender, to, delay in links:
         lines += ["[[link]]", "from = %d" % sender, "to = %d" % to, "delay = %d" % delay]
     if chance.random() < 0.05:

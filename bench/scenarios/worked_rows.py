@@ -10,7 +10,8 @@ import os
 import re
 import sys
 
-import explore
+from compare import compared
+from judge import Judge
 
 HERE = os.path.dirname(os.path.abspath(__file__))
 TABLE = os.path.join(HERE, "..", "..", "crates", "netsym", "src", "rows.rt")
@@ -47,15 +48,15 @@ def main():
     """Runs all rows."""
     count = differing = passed_over = 0
     for name, file, text, status in rows_of_the_tests():
-        if text.startswith("netsym: refused") and text != explore.NOT_YET:
+        if text.startswith(("netsym: refused", "replay")):
             passed_over += 1
             continue
         count += 1
-        answer = explore.explore(file)
-        if answer.text != text and text not in answer.others or status != answer.status:
+        wrong = compared(Judge(file, None), text, status, False)
+        if wrong is not None:
             differing += 1
             print("DIFFERS:", name)
-            print(answer.text, answer.status)
+            print(wrong)
     print("%d rows run, %d differ, %d passed over" % (count, differing, passed_over))
     return 1 if differing else 0
 
