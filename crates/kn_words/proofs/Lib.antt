@@ -1,0 +1,9 @@
+pub mod Numbers
+pub mod Spelling
+pub mod Taking
+pub mod Deciding
+pub mod Walking
+pub mod Parsing
+pub mod Making
+pub mod Lawful
+pub mod Handing
