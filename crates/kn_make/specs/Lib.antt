@@ -1,0 +1,4 @@
+pub mod Programs
+pub mod Making
+pub mod Texts
+pub mod Laws
