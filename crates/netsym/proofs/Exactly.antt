@@ -11,8 +11,14 @@ use Rattle.kn_netfile.specs.Reading.{file_of}
 use Rattle.netsym.specs.Refusals.{IsAccepted, IsRefusal}
 use Rattle.netsym.specs.declared.command.Command.{Command}
 use Rattle.netsym.specs.declared.command.Command.TheVariants as commands
-use Rattle.netsym.specs.Runs.{IsCommand, IsCommandOf, IsRight, PassesLimit, Reads, Runs, Answers, limit}
-use Rattle.netsym.specs.Exact.{EndsAs, IsUsage, IsHindered, IsPrinted, IsDescribed, IsTooLarge, IsExact}
+use Rattle.kn_words.specs.declared.line.Line.{Line}
+use Rattle.kn_words.specs.Lines.{IsLine, IsCommandLine}
+use Rattle.kn_words.specs.Laws.{OneLine}
+use Rattle.kn_make.specs.Making.{made}
+use Rattle.netsym.specs.declared.command.Making.{Making}
+use Rattle.netsym.specs.declared.command.Making.TheVariants as makings
+use Rattle.netsym.specs.Runs.{IsRight, IsRightFor, IsRightOnFile, IsRightOnNumber, PassesLimit, Reads, Runs, Answers, limit, line_for, line_of_making}
+use Rattle.netsym.specs.Exact.{EndsAs, IsUsage, IsHindered, IsStopped, IsPrinted, IsDescribed, IsTooLarge, IsExact, IsExactMade}
 
 -- bytes are a file of one network alone
 one_network : (bytes : List ℕ) (net other : Network) → IsAccepted bytes net → IsAccepted bytes other → net ≡ other
@@ -44,18 +50,41 @@ usage_exactly words left left' faults faults' taken taken' status run = record {
   always = λ none. status_is (λ s. EndsAs s statuses.Usage) words left left' faults faults' taken taken' status run (only_usage run.verdict run.text none run.right) (inr refl);
 }
   where
-    only_usage : (v : Status) (text : List ℕ) → (IsCommand words → ⊥) → IsRight words left left' v text → EndsAs v statuses.Usage
+    only_usage : (v : Status) (text : List ℕ) → (IsCommandLine words → ⊥) → IsRight words left left' v text → EndsAs v statuses.Usage
     only_usage statuses.Usage text none r = inl refl
     only_usage statuses.Clean text none r = absurd (none (r.0, r.1))
     only_usage statuses.Found text none r = absurd (none (r.0, r.1))
-    only_usage statuses.Open text none r = absurd (none (commands.Explore, r.0))
-    only_usage statuses.Refused text none r = absurd (none r.0)
-    only_usage statuses.ReadFault text none r = absurd (none r.0)
-    only_usage statuses.WriteFault text none r = absurd r
-    only_usage statuses.Memory text none r = absurd (none r.0)
-    only_usage statuses.Limit text none r = absurd (none (commands.Explore, r.0))
+    only_usage statuses.Open text none r = absurd (none (r.0, r.1))
+    only_usage statuses.Refused text none r = absurd (none (r.0, r.1))
+    only_usage statuses.ReadFault text none r = absurd (none (r.0, r.1))
+    only_usage statuses.WriteFault text none r = absurd (none (r.0, r.1))
+    only_usage statuses.Memory text none r = absurd (none (r.0, r.1))
+    only_usage statuses.Limit text none r = absurd (none (r.0, r.1))
 
-module _ (words : List (List ℕ)) (left left' : Option (List ℕ)) (faults faults' : ℕ) (taken taken' : Option (List ℕ)) (status : Status) (run : Runs words left left' faults faults' taken taken' status) (command : Command) (is : IsCommandOf command words) (bytes : List ℕ) (holds : left ≡ Some bytes) where
+-- what is right for the words of a command line is right for this line
+right_on : OneLine → (words : List (List ℕ)) (left left' : Option (List ℕ)) (line : Line) → IsLine line words → (v : Status) (text : List ℕ) → IsRight words left left' v text → IsRightFor line left left' v text
+right_on one_line words left left' line is statuses.Usage text r = absurd (r.0 (line, is))
+right_on one_line words left left' line is statuses.Clean text r = subst (λ (l : Line). IsRightFor l left left' statuses.Clean text) (one_line r.0 line words r.1 is) r.2
+right_on one_line words left left' line is statuses.Found text r = subst (λ (l : Line). IsRightFor l left left' statuses.Found text) (one_line r.0 line words r.1 is) r.2
+right_on one_line words left left' line is statuses.Open text r = subst (λ (l : Line). IsRightFor l left left' statuses.Open text) (one_line r.0 line words r.1 is) r.2
+right_on one_line words left left' line is statuses.Refused text r = subst (λ (l : Line). IsRightFor l left left' statuses.Refused text) (one_line r.0 line words r.1 is) r.2
+right_on one_line words left left' line is statuses.ReadFault text r = subst (λ (l : Line). IsRightFor l left left' statuses.ReadFault text) (one_line r.0 line words r.1 is) r.2
+right_on one_line words left left' line is statuses.WriteFault text r = subst (λ (l : Line). IsRightFor l left left' statuses.WriteFault text) (one_line r.0 line words r.1 is) r.2
+right_on one_line words left left' line is statuses.Memory text r = subst (λ (l : Line). IsRightFor l left left' statuses.Memory text) (one_line r.0 line words r.1 is) r.2
+right_on one_line words left left' line is statuses.Limit text r = subst (λ (l : Line). IsRightFor l left left' statuses.Limit text) (one_line r.0 line words r.1 is) r.2
+
+file_right : (command : Command) (left left' : Option (List ℕ)) (v : Status) (text : List ℕ) → IsRightFor (line_for command) left left' v text → IsRightOnFile command left left' v text
+file_right commands.Explore left left' v text r = r
+file_right commands.Replay left left' v text r = r
+
+number_right : (making : Making) (number : ℕ) (left left' : Option (List ℕ)) (v : Status) (text : List ℕ) → IsRightFor (line_of_making making number) left left' v text → IsRightOnNumber making number v text
+number_right makings.Explore number left left' v text r = r.1
+number_right makings.Print number left left' v text r = r.1
+
+module _ (words : List (List ℕ)) (left left' : Option (List ℕ)) (faults faults' : ℕ) (taken taken' : Option (List ℕ)) (status : Status) (run : Runs words left left' faults faults' taken taken' status) (command : Command) (one : OneLine) (is : IsLine (line_for command) words) (bytes : List ℕ) (holds : left ≡ Some bytes) where
+  right_here : (v : Status) (text : List ℕ) → IsRight words left left' v text → IsRightOnFile command left left' v text
+  right_here v text r = file_right command left left' v text (right_on one words left left' (line_for command) is v text r)
+
   described_by : (read : List ℕ) → Reads left left' read → (net : Network) → IsAccepted read net → IsDescribed bytes
   described_by read reads net accepted =
       let same = read_is left' bytes read (subst (λ (l : Option (List ℕ)). Consumes l left' read) holds reads.all) reads.end in
@@ -66,18 +95,22 @@ module _ (words : List (List ℕ)) (left left' : Option (List ℕ)) (faults faul
   described_run read reads file given = described_by read reads file.network (record { file = file; given = given; network = refl })
 
   clean_described : (c : Command) (read text : List ℕ) → Reads left left' read → Answers c read statuses.Clean text → IsDescribed bytes
-  clean_described commands.Explore read text reads h = described_by read reads h.1.net h.1.accepted
+  clean_described commands.Explore read text reads h = described_by read reads h.0 h.1
   clean_described commands.Replay read text reads h = described_run read reads h.1.file h.1.given
 
   found_described : (c : Command) (read text : List ℕ) → Reads left left' read → Answers c read statuses.Found text → IsDescribed bytes
-  found_described commands.Explore read text reads h = described_by read reads h.1.net h.1.accepted
+  found_described commands.Explore read text reads h = described_by read reads h.0 h.1
   found_described commands.Replay read text reads h = described_run read reads h.1.file h.1.given
 
+  open_described : (c : Command) (read text : List ℕ) → Reads left left' read → Answers c read statuses.Open text → IsDescribed bytes
+  open_described commands.Explore read text reads h = described_by read reads h.0 h.1
+  open_described commands.Replay read text reads h = absurd h
+
   -- a report or a run that is printed is on what the bytes describe
-  verdict_printed : (v : Status) (text : List ℕ) → IsRight words left left' v text → IsPrinted v → IsDescribed bytes
-  verdict_printed statuses.Clean text r p = clean_described r.0 r.2 text r.3 r.4
-  verdict_printed statuses.Found text r p = found_described r.0 r.2 text r.3 r.4
-  verdict_printed statuses.Open text r p = described_by r.1 r.2 r.3.1.net r.3.1.accepted
+  verdict_printed : (v : Status) (text : List ℕ) → IsRightOnFile command left left' v text → IsPrinted v → IsDescribed bytes
+  verdict_printed statuses.Clean text r p = clean_described command r.0 text r.1 r.2
+  verdict_printed statuses.Found text r p = found_described command r.0 text r.1 r.2
+  verdict_printed statuses.Open text r p = open_described command r.0 text r.1 r.2
   verdict_printed statuses.Usage text r p = absurd p
   verdict_printed statuses.Refused text r p = absurd p
   verdict_printed statuses.ReadFault text r p = absurd p
@@ -86,28 +119,20 @@ module _ (words : List (List ℕ)) (left left' : Option (List ℕ)) (faults faul
   verdict_printed statuses.Limit text r p = absurd p
 
   -- a limit is passed by what the bytes describe
-  verdict_large : (text : List ℕ) → IsRight words left left' statuses.Limit text → IsTooLarge bytes
-  verdict_large text r =
-      let same = read_is left' bytes r.1 (subst (λ (l : Option (List ℕ)). Consumes l left' r.1) holds r.2.all) r.2.end in
-      record {
-        fits = subst (λ (l : List ℕ). length l ≤ limit) same r.2.fits;
-        net = r.3.0;
-        accepted = subst (λ (l : List ℕ). IsAccepted l r.3.0) same r.3.1;
-        passes = r.3.2.passes;
-      }
+  large_by : (c : Command) (read text : List ℕ) → Reads left left' read → Answers c read statuses.Limit text → (c ≡ commands.Explore) × IsTooLarge bytes
+  unfolding described_by
+  large_by commands.Explore read text reads h =
+      let described = described_by read reads h.0 h.1 in
+      (refl, record { fits = described.0; net = described.1; accepted = described.2; passes = h.2.passes })
+  large_by commands.Replay read text reads h = absurd h
 
-  -- the words are those of one command
-  explores : (c : Command) → IsCommandOf c words → IsCommandOf commands.Explore words → c ≡ commands.Explore
-  explores commands.Explore e f = refl
-  explores commands.Replay e f = absurd (let wrong = sym e ∙ f in cc)
-
-  verdict_limited : (text : List ℕ) → IsRight words left left' statuses.Limit text → (command ≡ commands.Explore) × IsTooLarge bytes
-  verdict_limited text r = (explores command is r.0, verdict_large text r)
+  verdict_limited : (text : List ℕ) → IsRightOnFile command left left' statuses.Limit text → (command ≡ commands.Explore) × IsTooLarge bytes
+  verdict_limited text r = large_by command r.0 text r.1 r.2
 
   -- refused bytes describe nothing
-  verdict_refused : (text : List ℕ) → IsRight words left left' statuses.Refused text → IsDescribed bytes → ⊥
+  verdict_refused : (text : List ℕ) → IsRightOnFile command left left' statuses.Refused text → IsDescribed bytes → ⊥
   verdict_refused text r described =
-      elim r.1 [
+      elim r [
         | inl long ↦
             let most = too_many left' bytes long.0.0 (subst (λ (l : Option (List ℕ)). Consumes l left' long.0.0) holds long.0.1) in
             let fits = described.0 in
@@ -118,37 +143,43 @@ module _ (words : List (List ℕ)) (left left' : Option (List ℕ)) (faults faul
             not_both bytes described.1 text described.2 (subst (λ (l : List ℕ). IsRefusal (file_of l) text) same read.2)
       ]
 
-  verdict_prints : (v : Status) (text : List ℕ) → IsRight words left left' v text → IsDescribed bytes → IsPrinted v ⊎ ((v ≡ statuses.Limit) ⊎ IsHindered v)
+  never : {P : Type 0} (c : Command) (read text : List ℕ) → Answers c read statuses.Usage text ⊎ Answers c read statuses.WriteFault text → P
+  never commands.Explore read text (inl h) = absurd h.2
+  never commands.Explore read text (inr h) = absurd h.2
+  never commands.Replay read text (inl h) = absurd h
+  never commands.Replay read text (inr h) = absurd h
+
+  verdict_prints : (v : Status) (text : List ℕ) → IsRightOnFile command left left' v text → IsDescribed bytes → IsPrinted v ⊎ ((v ≡ statuses.Limit) ⊎ IsHindered v)
   verdict_prints statuses.Clean text r d = inl tt
   verdict_prints statuses.Found text r d = inl tt
   verdict_prints statuses.Open text r d = inl tt
-  verdict_prints statuses.Usage text r d = absurd (r.0 (command, is))
+  verdict_prints statuses.Usage text r d = never command r.0 text (inl r.2)
   verdict_prints statuses.Refused text r d = absurd (verdict_refused text r d)
   verdict_prints statuses.ReadFault text r d = inr (inr tt)
-  verdict_prints statuses.WriteFault text r d = absurd r
+  verdict_prints statuses.WriteFault text r d = inr (inr tt)
   verdict_prints statuses.Memory text r d = inr (inr tt)
   verdict_prints statuses.Limit text r d = inr (inl refl)
 
-  verdict_refuses : (v : Status) (text : List ℕ) → IsRight words left left' v text → (IsDescribed bytes → ⊥) → (v ≡ statuses.Refused) ⊎ IsHindered v
+  verdict_refuses : (v : Status) (text : List ℕ) → IsRightOnFile command left left' v text → (IsDescribed bytes → ⊥) → (v ≡ statuses.Refused) ⊎ IsHindered v
   verdict_refuses statuses.Clean text r none = absurd (none (verdict_printed statuses.Clean text r tt))
   verdict_refuses statuses.Found text r none = absurd (none (verdict_printed statuses.Found text r tt))
   verdict_refuses statuses.Open text r none = absurd (none (verdict_printed statuses.Open text r tt))
-  verdict_refuses statuses.Usage text r none = absurd (r.0 (command, is))
+  verdict_refuses statuses.Usage text r none = never command r.0 text (inl r.2)
   verdict_refuses statuses.Refused text r none = inl refl
   verdict_refuses statuses.ReadFault text r none = inr tt
-  verdict_refuses statuses.WriteFault text r none = absurd r
+  verdict_refuses statuses.WriteFault text r none = inr tt
   verdict_refuses statuses.Memory text r none = inr tt
-  verdict_refuses statuses.Limit text r none = absurd (none (let large = verdict_large text r in (large.fits, large.net, large.accepted)))
+  verdict_refuses statuses.Limit text r none = absurd (none (let large = (verdict_limited text r).1 in (large.fits, large.net, large.accepted)))
 
   -- a limit is answered only where one is passed
   limit_answered : status ≡ statuses.Limit → (command ≡ commands.Explore) × IsTooLarge bytes
   limit_answered ends = elim run.written [
-    | inl h ↦ verdict_limited run.text (subst (λ (v : Status). IsRight words left left' v run.text) (sym h.0 ∙ ends) run.right)
+    | inl h ↦ verdict_limited run.text (subst (λ (v : Status). IsRightOnFile command left left' v run.text) (sym h.0 ∙ ends) (right_here run.verdict run.text run.right))
     | inr h ↦ absurd (let wrong : statuses.WriteFault ≡ statuses.Limit = sym h.0 ∙ ends in cc)
   ]
 
   report_or_limit : IsDescribed bytes → IsPrinted status ⊎ ((status ≡ statuses.Limit) ⊎ IsHindered status)
-  report_or_limit d = status_is (λ s. IsPrinted s ⊎ ((s ≡ statuses.Limit) ⊎ IsHindered s)) words left left' faults faults' taken taken' status run (verdict_prints run.verdict run.text run.right d) (inr (inr tt))
+  report_or_limit d = status_is (λ s. IsPrinted s ⊎ ((s ≡ statuses.Limit) ⊎ IsHindered s)) words left left' faults faults' taken taken' status run (verdict_prints run.verdict run.text (right_here run.verdict run.text run.right) d) (inr (inr tt))
 
   -- where the network that is described passes no limit, none is answered
   within : (net : Network) → IsAccepted bytes net → (command ≡ commands.Explore → PassesLimit net → ⊥) → IsPrinted status ⊎ ((status ≡ statuses.Limit) ⊎ IsHindered status) → IsPrinted status ⊎ IsHindered status
@@ -162,15 +193,71 @@ module _ (words : List (List ℕ)) (left left' : Option (List ℕ)) (faults faul
   pub exact_by : IsExact command bytes status
   exact_by = record {
     refused = λ ends. elim run.written [
-      | inl h ↦ verdict_refused run.text (subst (λ (v : Status). IsRight words left left' v run.text) (sym h.0 ∙ ends) run.right)
+      | inl h ↦ verdict_refused run.text (subst (λ (v : Status). IsRightOnFile command left left' v run.text) (sym h.0 ∙ ends) (right_here run.verdict run.text run.right))
       | inr h ↦ absurd (let wrong : statuses.WriteFault ≡ statuses.Refused = sym h.0 ∙ ends in cc)
     ];
     printed = λ p. elim run.written [
-      | inl h ↦ verdict_printed run.verdict run.text run.right (subst IsPrinted h.0 p)
+      | inl h ↦ verdict_printed run.verdict run.text (right_here run.verdict run.text run.right) (subst IsPrinted h.0 p)
       | inr h ↦ absurd (subst IsPrinted h.0 p)
     ];
     limited = limit_answered;
-    refuses = λ none. status_is (λ s. (s ≡ statuses.Refused) ⊎ IsHindered s) words left left' faults faults' taken taken' status run (verdict_refuses run.verdict run.text run.right none) (inr tt);
+    refuses = λ none. status_is (λ s. (s ≡ statuses.Refused) ⊎ IsHindered s) words left left' faults faults' taken taken' status run (verdict_refuses run.verdict run.text (right_here run.verdict run.text run.right) none) (inr tt);
     prints = report_or_limit;
     prints_within = λ fits net accepted none. within net accepted none (report_or_limit (fits, net, accepted));
+  }
+
+module _ (words : List (List ℕ)) (left left' : Option (List ℕ)) (faults faults' : ℕ) (taken taken' : Option (List ℕ)) (status : Status) (run : Runs words left left' faults faults' taken taken' status) (making : Making) (number : ℕ) (one : OneLine) (is : IsLine (line_of_making making number) words) where
+  right_there : (v : Status) (text : List ℕ) → IsRight words left left' v text → IsRightOnNumber making number v text
+  right_there v text r = number_right making number left left' v text (right_on one words left left' (line_of_making making number) is v text r)
+
+  made_limited : (m : Making) (text : List ℕ) → IsRightOnNumber m number statuses.Limit text → (m ≡ makings.Explore) × PassesLimit (made number).network
+  made_limited makings.Explore text r = (refl, r.passes)
+  made_limited makings.Print text r = absurd r
+
+  made_prints : (m : Making) (v : Status) (text : List ℕ) → IsRightOnNumber m number v text → IsPrinted v ⊎ ((v ≡ statuses.Limit) ⊎ IsStopped v)
+  made_prints m statuses.Clean text r = inl tt
+  made_prints m statuses.Found text r = inl tt
+  made_prints m statuses.Open text r = inl tt
+  made_prints m statuses.Limit text r = inr (inl refl)
+  made_prints m statuses.Memory text r = inr (inr tt)
+  made_prints m statuses.WriteFault text r = inr (inr tt)
+  made_prints makings.Explore statuses.Usage text r = absurd r
+  made_prints makings.Print statuses.Usage text r = absurd r
+  made_prints makings.Explore statuses.Refused text r = absurd r
+  made_prints makings.Print statuses.Refused text r = absurd r
+  made_prints makings.Explore statuses.ReadFault text r = absurd r
+  made_prints makings.Print statuses.ReadFault text r = absurd r
+
+  made_clean : (m : Making) (v : Status) (text : List ℕ) → IsRightOnNumber m number v text → m ≡ makings.Print → (v ≡ statuses.Clean) ⊎ IsStopped v
+  made_clean m statuses.Clean text r p = inl refl
+  made_clean m statuses.Memory text r p = inr tt
+  made_clean m statuses.WriteFault text r p = inr tt
+  made_clean makings.Print statuses.Found text r p = absurd r
+  made_clean makings.Print statuses.Open text r p = absurd r
+  made_clean makings.Print statuses.Limit text r p = absurd r
+  made_clean makings.Print statuses.Usage text r p = absurd r
+  made_clean makings.Print statuses.Refused text r p = absurd r
+  made_clean makings.Print statuses.ReadFault text r p = absurd r
+  made_clean makings.Explore v text r p = absurd cc
+
+  number_limit : status ≡ statuses.Limit → (making ≡ makings.Explore) × PassesLimit (made number).network
+  number_limit ends = elim run.written [
+    | inl h ↦ made_limited making run.text (subst (λ (v : Status). IsRightOnNumber making number v run.text) (sym h.0 ∙ ends) (right_there run.verdict run.text run.right))
+    | inr h ↦ absurd (let wrong : statuses.WriteFault ≡ statuses.Limit = sym h.0 ∙ ends in cc)
+  ]
+
+  number_prints : IsPrinted status ⊎ ((status ≡ statuses.Limit) ⊎ IsStopped status)
+  number_prints = status_is (λ s. IsPrinted s ⊎ ((s ≡ statuses.Limit) ⊎ IsStopped s)) words left left' faults faults' taken taken' status run (made_prints making run.verdict run.text (right_there run.verdict run.text run.right)) (inr (inr tt))
+
+  number_within : (making ≡ makings.Explore → PassesLimit (made number).network → ⊥) → IsPrinted status ⊎ ((status ≡ statuses.Limit) ⊎ IsStopped status) → IsPrinted status ⊎ IsStopped status
+  number_within none (inl p) = inl p
+  number_within none (inr (inr h)) = inr h
+  number_within none (inr (inl ends)) = let limited = number_limit ends in absurd (none limited.0 limited.1)
+
+  pub made_by : IsExactMade making number status
+  made_by = record {
+    limited = number_limit;
+    prints = number_prints;
+    prints_within = λ none. number_within none number_prints;
+    prints_file = λ p. status_is (λ s. (s ≡ statuses.Clean) ⊎ IsStopped s) words left left' faults faults' taken taken' status run (made_clean making run.verdict run.text (right_there run.verdict run.text run.right) p) (inr tt);
   }

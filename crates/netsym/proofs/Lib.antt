@@ -1,6 +1,5 @@
 -- The lemmas on the top call.
 pub mod Lefts
-pub mod Words
 pub mod Lines
 pub mod Ends
 pub mod Exactly

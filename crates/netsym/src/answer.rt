@@ -3,19 +3,20 @@
 ghost use Rattle.std.specs.Prelude.{◌≡◌, ◌≤◌, ◌<◌, ℕ, length, Ok, IfOk, IfErr, string_bytes};
 ghost use Rattle.kn_model.specs.Reports.{Cob, Gives};
 ghost use Rattle.kn_report.specs.Statuses.{status_in};
-ghost use Rattle.kn_report.specs.Texts.{report_text};
+ghost use Rattle.kn_report.specs.Texts.{report_text, summary_text};
 ghost use Rattle.kn_cob.specs.Runs.{AreScenarios};
 ghost use Rattle.kn_netfile.specs.Reading.{file_of};
 ghost use Rattle.kn_cob.specs.Ticks.{limit_of, IsPassed};
 ghost use Rattle.netsym.specs.Refusals.{SaysWhy, Tells, refusal_line};
-ghost use Rattle.netsym.specs.Runs.{Answers, IsEither, IsReplayed, limit_line, limit_name};
+ghost use Rattle.netsym.specs.Runs.{Answers, AnswersMade, IsEither, IsReplayed, limit_line, limit_name};
 
-use crate::command::Command;
+use crate::command::{Command, Making};
 use kn_cob::{CobRun, Stop, explore_cob, report_of};
-use kn_netfile::{FileFault, read};
+use kn_make::make;
+use kn_netfile::{FileFault, print, read};
 use kn_plan::Net;
 use kn_replay::{failed_count, replay, text as run_text};
-use kn_report::{Report, Status, status_of, text};
+use kn_report::{Report, Status, status_of, summary, text};
 use kn_step::{LimitAt, LimitKind, Steps};
 use std::alloc::{AllocError, Global};
 use std::marker::Brand;
@@ -87,24 +88,53 @@ fn limited(alloc: Global, at: LimitAt) -> Result<Told, AllocError>
     })
 }
 
-/// The answer where there is a report.
+/// The answer where there is a report: all of it.
 fn printed(report: &Report) -> Result<Told, AllocError>
     ensures status { IfOk result (λ t. t.status ≡ status_in report.now) }
     ensures text { IfOk result (λ t. string_bytes t.text ≡ report_text report.now) }
 {
+    let status = status_of(report);
     Ok(Told {
-        status: status_of(report),
+        status,
         text: text(report)?,
     })
 }
 
-/// The answer on a network that is explored.
+/// The answer where there is a report of which the first and the last line are wanted.
+fn summarized(report: &Report) -> Result<Told, AllocError>
+    ensures status { IfOk result (λ t. t.status ≡ status_in report.now) }
+    ensures text { IfOk result (λ t. string_bytes t.text ≡ summary_text report.now) }
+{
+    Ok(Told {
+        status: status_of(report),
+        text: summary(report)?,
+    })
+}
+
+/// The answer on the network of a file that is explored.
 fn reported(alloc: Global, net: &Net) -> Result<Told, AllocError>
-    ensures { IfOk result (λ t. IsEither net.now.network t.status (string_bytes t.text)) }
+    ensures { IfOk result (λ t. IsEither report_text net.now.network t.status (string_bytes t.text)) }
 {
     match report_of_net(alloc, net) {
         Ok(report) => {
             let told = printed(&report)?;
+            Ok(told)
+        }
+        Err(Stop::Limit(at)) => {
+            let told = limited(alloc, at)?;
+            Ok(told)
+        }
+        Err(Stop::Memory(error)) => Err(error),
+    }
+}
+
+/// The answer on a network that was made and is explored.
+fn reported_in_short(alloc: Global, net: &Net) -> Result<Told, AllocError>
+    ensures { IfOk result (λ t. IsEither summary_text net.now.network t.status (string_bytes t.text)) }
+{
+    match report_of_net(alloc, net) {
+        Ok(report) => {
+            let told = summarized(&report)?;
             Ok(told)
         }
         Err(Stop::Limit(at)) => {
@@ -175,5 +205,20 @@ pub fn answer(alloc: Global, command: Command, bytes: &[u8]) -> Result<Told, Una
     match command {
         Command::Explore => reported(alloc, &net).map_err(Unanswered::Memory),
         Command::Replay => replayed(&net).map_err(Unanswered::Memory),
+    }
+}
+
+/// The status and the text of a command on the network that is made of a number, 0 to 35.
+pub fn answer_made(alloc: Global, making: Making, number: u8) -> Result<Told, AllocError>
+    requires { number < 36 }
+    ensures { IfOk result (λ t. AnswersMade making number t.status (string_bytes t.text)) }
+{
+    let net = make(alloc, number)?;
+    match making {
+        Making::Explore => reported_in_short(alloc, &net),
+        Making::Print => Ok(Told {
+            status: Status::Clean,
+            text: print(&net)?,
+        }),
     }
 }

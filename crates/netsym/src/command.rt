@@ -1,33 +1,19 @@
-//! Command lines.
+//! What is done for a command line.
 
-ghost use Rattle.std.specs.Prelude.{◌↔◌, IsTrue, MatchOption};
-ghost use Rattle.netsym.specs.Runs.{IsCommand, IsCommandOf, words_of};
-
-/// What a command line asks for.
+/// A command over the network of a file.
 #[derive(Clone, Copy, Debug, PartialEq, Eq)]
 pub enum Command {
-    /// All scenarios of a network, by copying it whole at every branch.
+    /// All scenarios of the network, by copying it whole at every branch.
     Explore,
-    /// The run of a network on the inputs that its file gives.
+    /// The run of the network on the inputs that its file gives.
     Replay,
 }
 
-/// The command of a command line: `explore --mapping cob`, or `replay`. None exactly where the words are neither.
-pub fn command_of(words: &[&str]) -> Option<Command>
-    ensures { MatchOption result (IsCommand (words_of words.now) → ⊥) (λ c. IsCommandOf c (words_of words.now)) }
-{
-    if words == ["explore", "--mapping", "cob"].as_slice() {
-        return Some(Command::Explore);
-    }
-    if words == ["replay"].as_slice() {
-        return Some(Command::Replay);
-    }
-    None
-}
-
-/// Whether the words are a command line: `explore --mapping cob`, or `replay`.
-pub fn words_ok(words: &[&str]) -> bool
-    ensures { IsTrue result ↔ IsCommand (words_of words.now) }
-{
-    command_of(words).is_some()
+/// A command over the network that the generator makes of a number.
+#[derive(Clone, Copy, Debug, PartialEq, Eq)]
+pub enum Making {
+    /// The first and the last line of the report on all its scenarios.
+    Explore,
+    /// The network as a file.
+    Print,
 }

@@ -1,5 +1,6 @@
 //! The top call on worked files, over a source and a sink in memory.
 
+use crate::protocols::PROTOCOLS;
 use crate::rows::{
     HALF_REPORT, HALVES, HALVES_REPORT, REPLAYS, ROWS, ROWS_OF_WORDS_AND_REFUSALS, Row, TREE,
 };
@@ -14,9 +15,9 @@ pub const COMMAND: [&str; 3] = ["explore", "--mapping", "cob"];
 
 /// The status of a call, and what it wrote.
 #[derive(Debug, Drop)]
-struct Ran {
-    status: Status,
-    text: Vec<u8>,
+pub struct Ran {
+    pub status: Status,
+    pub text: Vec<u8>,
 }
 
 impl Ran {
@@ -27,7 +28,7 @@ impl Ran {
 }
 
 /// Calls the program on a file; of the source and of the sink the calls with these numbers fail.
-fn call_on(
+pub fn call_on(
     alloc: Global,
     words: &[&str],
     file: &[u8],
@@ -79,6 +80,19 @@ fn replayed_files(rt: HostRuntime) -> Result<(), Fail> {
     for row in &REPLAYS {
         let right = is_right(rt.alloc(), &["replay"], row)?;
         assert!(rt; right, "{}", row.name);
+    }
+    Ok(())
+}
+
+#[test]
+fn protocols_of_the_examples(rt: HostRuntime) -> Result<(), Fail> {
+    for protocol in &PROTOCOLS {
+        let ran = call_on(rt.alloc(), &COMMAND, protocol.file.as_bytes(), &[], &[])?;
+        assert!(rt;
+            ran.is(protocol.status, protocol.report),
+            "{}",
+            protocol.name
+        );
     }
     Ok(())
 }

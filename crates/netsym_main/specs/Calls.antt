@@ -5,9 +5,11 @@ use Rattle.kn_io.specs.Causes.{Rose}
 use Rattle.kn_report.specs.declared.status.Status.{Status}
 use Rattle.kn_report.specs.declared.status.Status.TheVariants as statuses
 use Rattle.kn_report.specs.Statuses.{code_of}
-use Rattle.netsym.specs.Runs.{IsCommandOf, Runs}
+use Rattle.kn_words.specs.Lines.{IsLine}
+use Rattle.netsym.specs.Runs.{Runs, line_for, line_of_making}
 use Rattle.netsym.specs.declared.command.Command.{Command}
-use Rattle.netsym.specs.Exact.{IsUsage, IsExact}
+use Rattle.netsym.specs.declared.command.Making.{Making}
+use Rattle.netsym.specs.Exact.{IsUsage, IsExact, IsExactMade}
 
 -- where the system gives no words: the number of want of memory where that is the cause, and else 9, which is no status's
 pub record IsRefusal (WantsMemory : Type 0) (number : ℕ) : Type 0 where
@@ -30,4 +32,5 @@ pub record IsCall (words : List (List ℕ)) (left left' : Option (List ℕ)) (fa
   pub read_fault : status ≡ statuses.ReadFault → Rose faults faults'
   pub write_fault : status ≡ statuses.WriteFault → Rose flaws flaws'
   pub usage : IsUsage words status
-  pub exact : (command : Command) (bytes : List ℕ) → IsCommandOf command words → left ≡ Some bytes → IsExact command bytes status
+  pub exact : (command : Command) (bytes : List ℕ) → IsLine (line_for command) words → left ≡ Some bytes → IsExact command bytes status
+  pub made : (making : Making) (number : ℕ) → IsLine (line_of_making making number) words → IsExactMade making number status

@@ -4,7 +4,8 @@
 ghost use Rattle.std.specs.Prelude.{◌≡◌, ◌⊎◌, IfOk, IfErr, map, drop, string_bytes};
 ghost use Rattle.std.specs.IoError.{error_kind};
 ghost use Rattle.std.specs.Vec.Iter.{into_iter_items};
-ghost use Rattle.netsym.specs.Runs.{IsCommand, words_of};
+ghost use Rattle.kn_words.specs.Lines.{words_of};
+ghost use Rattle.netsym.specs.Runs.{IsOfFile};
 ghost use Rattle.kn_report.specs.Statuses.{code_of};
 ghost use Rattle.kn_report.specs.declared.status.Status.TheVariants as statuses;
 ghost use Rattle.netsym_main.specs.Calls.{IsRefusal, IsUntouched, IsCall};
@@ -58,7 +59,7 @@ fn word_slices(alloc: Global, texts: &[String]) -> Result<Vec<&str>, AllocError>
 /// and so nothing read or written.
 fn called<S: Source, K: Sink>(alloc: Global, texts: &[String], source: &mut S, sink: &mut K) -> u8
     ensures ends { ((result ≡ code_of statuses.Memory) × IsUntouched source.old source.new sink.old sink.new) ⊎ IsCall (map string_bytes texts.now) (S.left source.old) (S.left source.new) (S.faults source.old) (S.faults source.new) (K.taken sink.old) (K.taken sink.new) (K.faults sink.old) (K.faults sink.new) result }
-    ensures unread { (IsCommand (map string_bytes texts.now) → ⊥) → source.new ≡ source.old }
+    ensures unread { (IsOfFile (map string_bytes texts.now) → ⊥) → source.new ≡ source.old }
 {
     let Ok(words) = word_slices(alloc, texts) else {
         return Status::Memory.code();
@@ -79,7 +80,7 @@ fn exit_status<S: Source, K: Sink>(
 
     // Where it gives them.
     ensures ends { IfOk args (λ all. ((result ≡ code_of statuses.Memory) × IsUntouched source.old source.new sink.old sink.new) ⊎ IsCall (map string_bytes (drop 1 (into_iter_items all))) (S.left source.old) (S.left source.new) (S.faults source.old) (S.faults source.new) (K.taken sink.old) (K.taken sink.new) (K.faults sink.old) (K.faults sink.new) result) }
-    ensures unread { IfOk args (λ all. (IsCommand (map string_bytes (drop 1 (into_iter_items all))) → ⊥) → source.new ≡ source.old) }
+    ensures unread { IfOk args (λ all. (IsOfFile (map string_bytes (drop 1 (into_iter_items all))) → ⊥) → source.new ≡ source.old) }
 {
     let args = match args {
         Ok(args) => args,

@@ -1,5 +1,5 @@
 use Rattle.std.proofs.Common.{◌≡◌, map, string_bytes, take}
-use Rattle.netsym.specs.Runs.{words_of}
+use Rattle.kn_words.specs.Lines.{words_of}
 use Rattle.netsym_main.proofs.word_slices.Given as goal
 
 abbrev pub invariant-loop-text : goal.invariant-loop-text
